@@ -1,0 +1,4 @@
+pub mod Reasons
+pub mod Answers
+pub mod Limits
+pub mod Faults

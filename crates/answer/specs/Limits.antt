@@ -1,0 +1,23 @@
+-- The limits of document 01.
+-- Assumes nothing.
+use Prim.Native.Nat.{ℕ, _*_}
+
+-- A text has 1 to so many letters ("The words used").
+abbrev pub maxLength : ℕ
+maxLength = 1048576
+
+-- The reader hands on at most so many letters, and needs a buffer of that length (refusals 4 and 14).
+abbrev pub maxLetters : ℕ
+maxLetters = 2048
+
+-- A FASTA input has at most so many bytes (refusal 15).
+abbrev pub maxInput : ℕ
+maxInput = 8192
+
+-- The length that the run list of a text of n letters needs ("Places needed").
+abbrev pub runListLength : ℕ → ℕ
+runListLength n = 6 * n
+
+-- The length that the work buffer of the runs needs ("Places needed", refusal 5).
+abbrev pub workLength : ℕ → ℕ
+workLength n = 2 * n

@@ -1,0 +1,23 @@
+-- The numbers of the reasons to refuse an input.
+-- Assumes nothing.
+use Prim.Native.Nat.{ℕ}
+use Rattle.answer.specs.declared.Reason.{Reason}
+use Rattle.answer.specs.declared.Reason.the-variants.{EmptyInput, TooLong, UnknownOrder, ShortOutput, ShortWork, ZeroEntry, LongEntry, CrossingSpans, NoHeader, BadName, UnfitByte, SecondRecord, NoLetters, TooManyLetters, InputTooLong}
+
+-- Document 01's number for each reason ("Where each check stands", column "No.").
+abbrev pub numberOf : Reason → ℕ
+numberOf EmptyInput = 1
+numberOf TooLong = 2
+numberOf UnknownOrder = 3
+numberOf ShortOutput = 4
+numberOf ShortWork = 5
+numberOf ZeroEntry = 6
+numberOf LongEntry = 7
+numberOf CrossingSpans = 8
+numberOf NoHeader = 9
+numberOf BadName = 10
+numberOf UnfitByte = 11
+numberOf SecondRecord = 12
+numberOf NoLetters = 13
+numberOf TooManyLetters = 14
+numberOf InputTooLong = 15

@@ -1,0 +1,125 @@
+// The record that every call of the library returns: accepted with its count, or refused with a
+// reason and a position. Answers are made by `accepted` and `refused` alone, and `number` and
+// `value` say what a caller outside the library is told of one.
+//
+// Contracts cite `specs/Reasons.antt` and `specs/Answers.antt`, those of `limits` `specs/Limits.antt`.
+// Nothing is assumed.
+pub mod limits;
+
+ghost use mathlib.Core.Path.{_≡_};
+ghost use Rattle.answer.specs.Reasons.{numberOf};
+ghost use Rattle.answer.specs.Answers.{acceptedWith, refusedFor, number, value};
+
+// Why a call refuses its input: a case for each row of document 01, "Where each check stands".
+pub enum Reason {
+    // 1: the length of the text or array is 0.
+    EmptyInput,
+    // 2: the length of the text or array is over 1,048,576.
+    TooLong,
+    // 3: the order number is neither 0 nor 1.
+    UnknownOrder,
+    // 4: an output buffer is shorter than needed; for the reader, the letters buffer is under 2,048.
+    ShortOutput,
+    // 5: the work buffer is shorter than 2 × n.
+    ShortWork,
+    // 6: an entry is 0.
+    ZeroEntry,
+    // 7: entry i is over n − i.
+    LongEntry,
+    // 8: the span at j crosses an earlier span's end.
+    CrossingSpans,
+    // 9: FASTA byte 0 is absent or not '>'.
+    NoHeader,
+    // 10: the FASTA name is empty, or has a 61st byte, or a byte outside 33 to 126 that doesn't end it.
+    BadName,
+    // 11: an unfit byte, or '>' inside a line.
+    UnfitByte,
+    // 12: '>' at a line's start.
+    SecondRecord,
+    // 13: no letter read.
+    NoLetters,
+    // 14: a 2,049th letter.
+    TooManyLetters,
+    // 15: the FASTA input is over 8,192 bytes.
+    InputTooLong,
+}
+
+// What a call makes of its input. The position is 0 where document 01's table names none.
+pub enum Outcome {
+    Accepted { count: u32 },
+    Refused { reason: Reason, position: u32 },
+}
+
+// What every call returns.
+pub struct Answer {
+    pub outcome: Outcome,
+}
+
+// The answer to an accepted input, with its count.
+pub fn accepted(count: u32) -> Answer
+    ensures { λ r. ⌜ r ≡ acceptedWith count ⌝ }
+{
+    Answer {
+        outcome: Outcome::Accepted { count },
+    }
+}
+
+// The answer to a refused input, with the reason and the position.
+pub fn refused(reason: Reason, position: u32) -> Answer
+    ensures { λ r. ⌜ r ≡ refusedFor reason position ⌝ }
+{
+    Answer {
+        outcome: Outcome::Refused { reason, position },
+    }
+}
+
+// The number that document 01 gives a reason.
+pub fn number_of(reason: Reason) -> u32
+    ensures { λ r. ⌜ r ≡ numberOf reason ⌝ }
+{
+    match reason {
+        Reason::EmptyInput => 1,
+        Reason::TooLong => 2,
+        Reason::UnknownOrder => 3,
+        Reason::ShortOutput => 4,
+        Reason::ShortWork => 5,
+        Reason::ZeroEntry => 6,
+        Reason::LongEntry => 7,
+        Reason::CrossingSpans => 8,
+        Reason::NoHeader => 9,
+        Reason::BadName => 10,
+        Reason::UnfitByte => 11,
+        Reason::SecondRecord => 12,
+        Reason::NoLetters => 13,
+        Reason::TooManyLetters => 14,
+        Reason::InputTooLong => 15,
+    }
+}
+
+// The number of an answer: 0 where it accepts, else the reason's.
+pub fn number(a: Answer) -> u32
+    ensures { λ r. ⌜ r ≡ number a ⌝ }
+{
+    let outcome = a.outcome;
+    match outcome {
+        Outcome::Accepted { count: _ } => 0,
+        Outcome::Refused {
+            reason,
+            position: _,
+        } => number_of(reason),
+    }
+}
+
+// The value of an answer: the count where it accepts, else the position.
+pub fn value(a: Answer) -> u32
+    ensures { λ r. ⌜ r ≡ value a ⌝ }
+{
+    let outcome = a.outcome;
+    match outcome {
+        Outcome::Accepted { count } => count,
+        Outcome::Refused {
+            reason: _,
+            position,
+        } => position,
+    }
+}

@@ -1,0 +1,1 @@
+// The Lyndon array of a text.

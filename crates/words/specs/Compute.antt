@@ -1,0 +1,9 @@
+pub mod Word
+pub mod Lyndon
+pub mod Search
+pub mod LyndonArray
+pub mod Factorization
+pub mod SuffixTable
+pub mod Forest
+pub mod Runs
+pub mod ValidArray

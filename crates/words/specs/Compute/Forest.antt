@@ -1,0 +1,268 @@
+-- The forests of a text computed from the starts of its factors, for letters whose comparisons are decided.
+-- Assumes nothing.
+use mathlib.Core.Path.{_≡_, refl, sym, ap, _∙_}
+use mathlib.Core.Bool.{Bool, true, false}
+use mathlib.Core.List.{List, [], _∷_, _++_, append-assoc}
+use Prim.Native.Nat.{ℕ, zero, suc, _+_, _-_, _<_, _≤_}
+use native.Mathlib.Omega.{arith}
+use lib.ListN.{length, getD, drop, length-append}
+use lib.Seq.{drop-drop, getD-drop, drop-append-seam}
+use lib.Dec.{T, ltb, ltb→lt, nltb→le}
+use Rattle.words.specs.Letters.{Letters, Decided}
+use Rattle.words.specs.Word.{span}
+use Rattle.words.specs.Factorization.{IsFactorization}
+use Rattle.words.specs.CutTree.{CutTree, letter, cut, Recorded, Tree, IsForest}
+use Rattle.words.specs.RightForest.{RightCut, IsRightForest}
+use Rattle.words.specs.LeftForest.{LeftCut, IsLeftForest}
+use Rattle.words.specs.Compute.Lyndon.{lyndonb, lyndonb-lyndon, lyndon-lyndonb, letter-passes}
+use Rattle.words.specs.Compute.Search.{greatestBelow, GreatestBelow, greatestBelow-right, at-most-greatest, leastFrom, LeastFrom, leastFrom-right, least-at-most}
+use Rattle.words.specs.Laws.Factorization.{Divides, division-reaches, factors-divide}
+
+-- What FIRST records of a cut of the span from a to b.
+abbrev pub fromOf : ℕ → ℕ → ℕ
+fromOf a b = a
+
+-- What PAST records of a cut of the span from a to b.
+abbrev pub pastOf : ℕ → ℕ → ℕ
+pastOf a b = b
+
+-- What is recorded of the positions strictly inside the span from a to b, from left to right: its cut stands between those of the two
+-- parts. d is at least the length of the span.
+abbrev pub recordsOf : (ℕ → ℕ → ℕ) → (ℕ → ℕ → ℕ) → ℕ → ℕ → ℕ → List ℕ
+recordsOf cutAt note zero a b = []
+recordsOf cutAt note (suc d) a b =
+    elim (ltb (suc a) b) [
+      | true ↦ let c = cutAt a b in recordsOf cutAt note d a c ++ (note a b ∷ recordsOf cutAt note d c b)
+      | false ↦ []
+    ]
+
+-- What is recorded of the positions of a text of length n whose factors start at s: of a start the start itself, of any other position
+-- its cut.
+abbrev pub forestOf : (ℕ → ℕ → ℕ) → (ℕ → ℕ → ℕ) → ℕ → List ℕ → List ℕ
+forestOf cutAt note n [] = []
+forestOf cutAt note n (a ∷ s) = a ∷ (recordsOf cutAt note n a (getD s 0 n) ++ forestOf cutAt note n s)
+
+-- The start of the longest proper Lyndon suffix of the span from a to b.
+abbrev pub rightCutAt : {A : Type 0} {O : Letters A} → Decided O → List A → ℕ → ℕ → ℕ
+rightCutAt D x a b = leastFrom (λ k. lyndonb D (span k b x)) (suc a) (b - suc a)
+
+-- The end of the longest proper Lyndon prefix of the span from a to b.
+abbrev pub leftCutAt : {A : Type 0} {O : Letters A} → Decided O → List A → ℕ → ℕ → ℕ
+leftCutAt D x a b = greatestBelow (λ k. lyndonb D (span a k x)) b
+
+-- FIRST of the right forest of x, whose factors start at s.
+abbrev pub rightFirstOf : {A : Type 0} {O : Letters A} → Decided O → List A → List ℕ → List ℕ
+rightFirstOf D x s = forestOf (rightCutAt D x) fromOf (length x) s
+
+-- PAST of the right forest of x, whose factors start at s.
+abbrev pub rightPastOf : {A : Type 0} {O : Letters A} → Decided O → List A → List ℕ → List ℕ
+rightPastOf D x s = forestOf (rightCutAt D x) pastOf (length x) s
+
+-- FIRST of the left forest of x, whose factors start at s.
+abbrev pub leftFirstOf : {A : Type 0} {O : Letters A} → Decided O → List A → List ℕ → List ℕ
+leftFirstOf D x s = forestOf (leftCutAt D x) fromOf (length x) s
+
+-- PAST of the left forest of x, whose factors start at s.
+abbrev pub leftPastOf : {A : Type 0} {O : Letters A} → Decided O → List A → List ℕ → List ℕ
+leftPastOf D x s = forestOf (leftCutAt D x) pastOf (length x) s
+
+-- The rule cuts strictly inside a span, and its cut of each span of two letters or more up to n is computed.
+pub record CutsBy (Rule : ℕ → ℕ → ℕ → Type 0) (cutAt : ℕ → ℕ → ℕ) (n : ℕ) : Type 0 where
+  pub inside : (a c b : ℕ) → Rule a c b → (a < c) × (c < b)
+  pub right : (a b : ℕ) → suc a < b → b ≤ n → Rule a (cutAt a b) b
+
+-- What stands at position c and behind it.
+at-position : (l : List ℕ) (c v : ℕ) (r : List ℕ) → drop c l ≡ v ∷ r → (getD l c 0 ≡ v) × (drop (suc c) l ≡ r)
+at-position l c v r e =
+    let z : c + 0 ≡ c = omega arith in
+    let o : c + 1 ≡ suc c = omega arith in (
+      sym (rw z at (getD-drop c l 0 0)) ∙ ap (λ (m : List ℕ). getD m 0 0) e,
+      sym (rw o at (drop-drop 1 c l)) ∙ ap (λ (m : List ℕ). drop 1 m) e,
+    )
+
+drop-past : (l u r : List ℕ) (i c : ℕ) → drop i l ≡ u ++ r → length u + i ≡ c → drop c l ≡ r
+drop-past l u r i c e h =
+    let z : i + length u ≡ c = omega arith in
+    sym (rw z at (drop-drop (length u) i l)) ∙ ap (λ (m : List ℕ). drop (length u) m) e ∙ drop-append-seam u r
+
+-- l holds, behind position a, what is recorded of the span from a to b.
+record Written (cutAt note : ℕ → ℕ → ℕ) (l : List ℕ) (d a b : ℕ) : Type 0 where
+  rest : List ℕ
+  seen : drop (suc a) l ≡ recordsOf cutAt note d a b ++ rest
+
+-- l holds what is recorded of both parts of the span from a to b, and of the cut between them.
+record WrittenParts (cutAt note : ℕ → ℕ → ℕ) (l : List ℕ) (d a b : ℕ) : Type 0 where
+  first-part : Written cutAt note l d a (cutAt a b)
+  at-cut : getD l (cutAt a b) 0 ≡ note a b
+  second-part : Written cutAt note l d (cutAt a b) b
+
+records-cut : (cutAt note : ℕ → ℕ → ℕ) (d a b : ℕ) → ltb (suc a) b ≡ true
+    → recordsOf cutAt note (suc d) a b ≡ recordsOf cutAt note d a (cutAt a b) ++ (note a b ∷ recordsOf cutAt note d (cutAt a b) b)
+records-cut cutAt note d a b e = rw (e, recordsOf)
+
+records-letter : (cutAt note : ℕ → ℕ → ℕ) (d a b : ℕ) → ltb (suc a) b ≡ false → recordsOf cutAt note (suc d) a b ≡ []
+records-letter cutAt note d a b e = rw (e, recordsOf)
+
+module _ {Rule : ℕ → ℕ → ℕ → Type 0} {cutAt : ℕ → ℕ → ℕ} {n : ℕ} (R : CutsBy Rule cutAt n) where
+  cut-inside : (a b : ℕ) → suc a < b → b ≤ n → (a < cutAt a b) × (cutAt a b < b)
+  cut-inside a b h f = R .inside a (cutAt a b) b (R .right a b h f)
+
+  length-recordsOf : (note : ℕ → ℕ → ℕ) (d a b : ℕ) → a < b → b ≤ n → b ≤ a + d → length (recordsOf cutAt note d a b) + suc a ≡ b
+  length-recordsOf note zero a b h f g = absurd (omega arith)
+  length-recordsOf note (suc d) a b h f g = go (ltb (suc a) b) refl (length-recordsOf note d)
+    where
+      go : (t : Bool) → ltb (suc a) b ≡ t
+          → ((a b : ℕ) → a < b → b ≤ n → b ≤ a + d → length (recordsOf cutAt note d a b) + suc a ≡ b)
+          → length (recordsOf cutAt note (suc d) a b) + suc a ≡ b
+      go true e r =
+          let i = cut-inside a b (ltb→lt (suc a) b (rw e tt)) f in
+          let c = cutAt a b in
+          let u = r a c (i .0) (omega arith) (omega arith) in
+          let v = r c b (i .1) f (omega arith) in
+          rw (records-cut cutAt note d a b e)
+          (omega (arith, length-append (recordsOf cutAt note d a c) (note a b ∷ recordsOf cutAt note d c b)))
+      go false e r = rw (records-letter cutAt note d a b e) (omega (arith, nltb→le (suc a) b (rw e tt)))
+
+  written-parts : (note : ℕ → ℕ → ℕ) (l : List ℕ) (d a b : ℕ) → ltb (suc a) b ≡ true → b ≤ n → b ≤ a + suc d
+      → Written cutAt note l (suc d) a b → WrittenParts cutAt note l d a b
+  written-parts note l d a b e f g w =
+      let i = cut-inside a b (ltb→lt (suc a) b (rw e tt)) f in
+      let c = cutAt a b in
+      let u = recordsOf cutAt note d a c in
+      let r = note a b ∷ (recordsOf cutAt note d c b ++ w .rest) in
+      let s : drop (suc a) l ≡ u ++ r = rw (records-cut cutAt note d a b e, append-assoc) at (w .seen) in
+      let k = length-recordsOf note d a c (i .0) (omega arith) (omega arith) in
+      let p = at-position l c (note a b) (recordsOf cutAt note d c b ++ w .rest) (drop-past l u r (suc a) c s k) in
+      record {
+        first-part = record { rest = r; seen = s };
+        at-cut = p .0;
+        second-part = record { rest = w .rest; seen = p .1 };
+      }
+
+  -- Lists that hold what is recorded of a span record a tree of it.
+  recorded-tree : (first past : List ℕ) (d a b : ℕ) → a < b → b ≤ n → b ≤ a + d
+      → Written cutAt fromOf first d a b → Written cutAt pastOf past d a b → (t : CutTree Rule a b) × Recorded first past t
+  recorded-tree first past zero a b h f g v w = absurd (omega arith)
+  recorded-tree first past (suc d) a b h f g v w = go (ltb (suc a) b) refl (recorded-tree first past d)
+    where
+      go : (t : Bool) → ltb (suc a) b ≡ t
+          → ((a b : ℕ) → a < b → b ≤ n → b ≤ a + d → Written cutAt fromOf first d a b → Written cutAt pastOf past d a b
+          → (t : CutTree Rule a b) × Recorded first past t)
+          → (t : CutTree Rule a b) × Recorded first past t
+      go true e r =
+          let j : suc a < b = ltb→lt (suc a) b (rw e tt) in
+          let i = cut-inside a b j f in
+          let c = cutAt a b in
+          let p = written-parts fromOf first d a b e f g v in
+          let q = written-parts pastOf past d a b e f g w in
+          let s = r a c (i .0) (omega arith) (omega arith) (p .first-part) (q .first-part) in
+          let t = r c b (i .1) f (omega arith) (p .second-part) (q .second-part) in
+          (cut c (R .right a b j f) (s .0) (t .0), (p .at-cut, q .at-cut, s .1, t .1))
+      go false e r =
+          let q : b ≡ suc a = omega (arith, nltb→le (suc a) b (rw e tt)) in
+          (letter q, tt)
+
+  length-forestOf : (note : ℕ → ℕ → ℕ) (i : ℕ) (s : List ℕ) → Divides i s n → length (forestOf cutAt note n s) + i ≡ n
+  length-forestOf note i [] d = omega arith
+  length-forestOf note i (a ∷ s) d =
+      let b = getD s 0 n in
+      let f : b ≤ n = division-reaches b s n (d .2) 0 in
+      omega (
+        arith,
+        length-append (recordsOf cutAt note n a b) (forestOf cutAt note n s),
+        length-recordsOf note n a b (d .1) f (omega arith),
+        length-forestOf note b s (d .2),
+      )
+
+  -- What the list holds from the first start on and from the second start on.
+  drop-factor : (note : ℕ → ℕ → ℕ) (l : List ℕ) (i a : ℕ) (s : List ℕ) → Divides i (a ∷ s) n
+      → drop i l ≡ forestOf cutAt note n (a ∷ s)
+      → (getD l a 0 ≡ a) × Written cutAt note l n a (getD s 0 n) × (drop (getD s 0 n) l ≡ forestOf cutAt note n s)
+  drop-factor note l i a s d e =
+      let b = getD s 0 n in
+      let f : b ≤ n = division-reaches b s n (d .2) 0 in
+      let u = recordsOf cutAt note n a b in
+      let o : drop a l ≡ a ∷ (u ++ forestOf cutAt note n s) = rw (d .0) at e in
+      let p = at-position l a a (u ++ forestOf cutAt note n s) o in (
+        p .0,
+        record { rest = forestOf cutAt note n s; seen = p .1 },
+        drop-past l u (forestOf cutAt note n s) (suc a) b (p .1) (length-recordsOf note n a b (d .1) f (omega arith)),
+      )
+
+  -- Lists that hold what is recorded of all positions from i on have a tree for each factor from i on.
+  factor-trees : (first past : List ℕ) (i : ℕ) (s : List ℕ) → Divides i s n → drop i first ≡ forestOf cutAt fromOf n s
+      → drop i past ≡ forestOf cutAt pastOf n s → (k : ℕ) → k < length s
+      → Tree Rule first past (getD s k 0) (getD s (suc k) n)
+  factor-trees first past i [] d e g k h = absurd (omega arith)
+  factor-trees first past i (a ∷ s) d e g zero h =
+      let b = getD s 0 n in
+      let f : b ≤ n = division-reaches b s n (d .2) 0 in
+      let p = drop-factor fromOf first i a s d e in
+      let q = drop-factor pastOf past i a s d g in
+      let t = recorded-tree first past n a b (d .1) f (omega arith) (p .1) (q .1) in
+      record { own-first = p .0; own-past = q .0; tree = t .0; recorded = t .1 }
+  factor-trees first past i (a ∷ s) d e g (suc k) h =
+      factor-trees first past (getD s 0 n) s (d .2)
+      (drop-factor fromOf first i a s d e .2)
+      (drop-factor pastOf past i a s d g .2)
+      k
+      (omega arith)
+
+-- The lists computed from a rule's cuts are the forest under that rule.
+pub forestOf-right : {A : Type 0} {O : Letters A} {x : List A} {s : List ℕ} {Rule : ℕ → ℕ → ℕ → Type 0} {cutAt : ℕ → ℕ → ℕ}
+    → CutsBy Rule cutAt (length x) → IsFactorization O x s
+    → IsForest O Rule x (forestOf cutAt fromOf (length x) s) (forestOf cutAt pastOf (length x) s)
+forestOf-right {x = x} {s = s} {cutAt = cutAt} R F =
+    let n = length x in
+    let d = factors-divide F in
+    record {
+      first-size = omega (arith, length-forestOf R fromOf 0 s d);
+      past-size = omega (arith, length-forestOf R pastOf 0 s d);
+      factor-starts = s;
+      factorization = F;
+      factor = factor-trees R (forestOf cutAt fromOf n s) (forestOf cutAt pastOf n s) 0 s d refl refl;
+    }
+
+module _ {A : Type 0} {O : Letters A} (D : Decided O) (x : List A) where
+  -- The computed right cut is the one of the right forest's rule.
+  pub rightCutAt-right : CutsBy (RightCut O x) (rightCutAt D x) (length x)
+  rightCutAt-right = record { inside = λ a c b r. (r .proper, r .inside); right = right }
+    where
+      right : (a b : ℕ) → suc a < b → b ≤ length x → RightCut O x a (rightCutAt D x a b) b
+      right a (suc e) h f =
+          let c = rightCutAt D x a (suc e) in
+          let p : ℕ → Bool = λ k. lyndonb D (span k (suc e) x) in
+          let one : T (p e) = letter-passes D x e f in
+          let g : LeastFrom p (suc a) c = leastFrom-right p (suc a) (suc e - suc a) e (omega arith) (omega arith) one in
+          record {
+            proper = g .reached;
+            inside = omega (arith, least-at-most g e (omega arith) one);
+            lyndon = lyndonb-lyndon D (span c (suc e) x) (g .passes);
+            longest = λ k i j l. g .least k i j (lyndon-lyndonb D (span k (suc e) x) l);
+          }
+      right a zero h f = absurd (omega arith)
+
+  -- The computed left cut is the one of the left forest's rule.
+  pub leftCutAt-right : CutsBy (LeftCut O x) (leftCutAt D x) (length x)
+  leftCutAt-right = record { inside = λ a c b r. (r .non-empty, r .proper); right = right }
+    where
+      right : (a b : ℕ) → suc a < b → b ≤ length x → LeftCut O x a (leftCutAt D x a b) b
+      right a b h f =
+          let c = leftCutAt D x a b in
+          let p : ℕ → Bool = λ k. lyndonb D (span a k x) in
+          let one : T (p (suc a)) = letter-passes D x a (omega arith) in
+          let g : GreatestBelow p b c = greatestBelow-right p b (suc a) h one in
+          record {
+            non-empty = at-most-greatest g (suc a) h one;
+            proper = g .below;
+            lyndon = lyndonb-lyndon D (span a c x) (g .passes);
+            longest = λ k i j l. g .greatest k i j (lyndon-lyndonb D (span a k x) l);
+          }
+
+  -- The computed lists are the right forest.
+  pub rightForestOf-right : {s : List ℕ} → IsFactorization O x s → IsRightForest O x (rightFirstOf D x s) (rightPastOf D x s)
+  rightForestOf-right F = forestOf-right rightCutAt-right F
+
+  -- The computed lists are the left forest.
+  pub leftForestOf-right : {s : List ℕ} → IsFactorization O x s → IsLeftForest O x (leftFirstOf D x s) (leftPastOf D x s)
+  leftForestOf-right F = forestOf-right leftCutAt-right F

@@ -1,0 +1,71 @@
+-- Lyndon words by a test that computes, for letters whose comparisons are decided.
+-- Assumes nothing.
+use mathlib.Core.Path.{_≡_, refl}
+use mathlib.Core.Logic.{_↔_}
+use mathlib.Core.Bool.{Bool, true, false}
+use mathlib.Core.List.{List, [], _∷_, _++_, nil≢cons, cons≢nil, tail-eq-of-cons-eq}
+use Prim.Native.Nat.{ℕ, zero, suc, _<_}
+use native.Mathlib.Omega.{arith}
+use lib.ListN.{length}
+use lib.Dec.{T}
+use Rattle.words.specs.Letters.{Letters, Decided}
+use Rattle.words.specs.Word.{Less, span}
+use Rattle.words.specs.Lyndon.{Lyndon}
+use Rattle.words.specs.Compute.Word.{lessb, lessb-less, less-lessb}
+
+-- w is smaller than all non-empty suffixes of s, as a test.
+abbrev pub belowSuffixes : {A : Type 0} {O : Letters A} → Decided O → List A → List A → Bool
+belowSuffixes D w [] = true
+belowSuffixes D w (a ∷ s) = elim (lessb D w (a ∷ s)) [ true ↦ belowSuffixes D w s | false ↦ false ]
+
+-- w is a Lyndon word, as a test.
+abbrev pub lyndonb : {A : Type 0} {O : Letters A} → Decided O → List A → Bool
+lyndonb D [] = false
+lyndonb D (a ∷ w) = belowSuffixes D (a ∷ w) w
+
+module _ {A : Type 0} {O : Letters A} (D : Decided O) where
+  below-suffix : (w s u v : List A) → T (belowSuffixes D w s) → s ≡ u ++ v → ¬ (v ≡ []) → Less O w v
+  below-suffix w [] [] v t e d = absurd (d (cc))
+  below-suffix w [] (b ∷ u) v t e d = absurd (nil≢cons e)
+  below-suffix w (a ∷ s) u v t e d = go (lessb D w (a ∷ s)) refl t (below-suffix w s) u e
+    where
+      go : (b : Bool) → lessb D w (a ∷ s) ≡ b → T (elim b [ true ↦ belowSuffixes D w s | false ↦ false ])
+          → ((u v : List A) → T (belowSuffixes D w s) → s ≡ u ++ v → ¬ (v ≡ []) → Less O w v)
+          → (u : List A) → a ∷ s ≡ u ++ v → Less O w v
+      go true p t h [] e = rw e at (lessb-less D w (a ∷ s) (rw p tt))
+      go true p t h (b ∷ u) e = h u v t (tail-eq-of-cons-eq e) d
+      go false p t h u e = absurd t
+
+  belowSuffixes-passes : (w s : List A) → ((u v : List A) → s ≡ u ++ v → ¬ (v ≡ []) → Less O w v) → T (belowSuffixes D w s)
+  belowSuffixes-passes w [] h = tt
+  belowSuffixes-passes w (a ∷ s) h =
+      go (lessb D w (a ∷ s)) (less-lessb D w (a ∷ s) (h [] (a ∷ s) refl cons≢nil))
+      (belowSuffixes-passes w s (λ u v e d. h (a ∷ u) v (cc) d))
+    where
+      go : (b : Bool) → T b → T (belowSuffixes D w s) → T (elim b [ true ↦ belowSuffixes D w s | false ↦ false ])
+      go true t r = r
+      go false t r = t
+
+  -- A word that passes the test is a Lyndon word.
+  pub lyndonb-lyndon : (w : List A) → T (lyndonb D w) → Lyndon O w
+  lyndonb-lyndon [] t = absurd t
+  lyndonb-lyndon (a ∷ w) t = record { non-empty = cons≢nil; smaller = smaller }
+    where
+      smaller : (u v : List A) → a ∷ w ≡ u ++ v → ¬ (u ≡ []) → ¬ (v ≡ []) → Less O (a ∷ w) v
+      smaller [] v e c d = absurd (c refl)
+      smaller (b ∷ u) v e c d = below-suffix (a ∷ w) w u v t (tail-eq-of-cons-eq e) d
+
+  -- A Lyndon word passes the test.
+  pub lyndon-lyndonb : (w : List A) → Lyndon O w → T (lyndonb D w)
+  lyndon-lyndonb [] l = absurd (l .non-empty refl)
+  lyndon-lyndonb (a ∷ w) l = belowSuffixes-passes (a ∷ w) w (λ u v e d. l .smaller (a ∷ u) v (cc) cons≢nil d)
+
+  -- The test decides whether a word is a Lyndon word.
+  pub lyndonb-right : (w : List A) → T (lyndonb D w) ↔ Lyndon O w
+  lyndonb-right w = (lyndonb-lyndon w, lyndon-lyndonb w)
+
+  -- One letter of a text is a Lyndon word.
+  pub letter-passes : (x : List A) (i : ℕ) → i < length x → T (lyndonb D (span i (suc i) x))
+  letter-passes [] i h = absurd (omega arith)
+  letter-passes (a ∷ x) zero h = tt
+  letter-passes (a ∷ x) (suc i) h = letter-passes x i (omega arith)

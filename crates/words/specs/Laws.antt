@@ -1,0 +1,16 @@
+pub mod Letters
+pub mod Word
+pub mod Position
+pub mod SpanLyndon
+pub mod SuffixOrder
+pub mod NextSmaller
+pub mod Decided
+pub mod ArrayNext
+pub mod FactorChain
+pub mod Tabulate
+pub mod Factorization
+pub mod Unique
+pub mod ForestUnique
+pub mod Runs
+pub mod RunRenaming
+pub mod ValidArray

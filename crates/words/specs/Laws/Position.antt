@@ -1,0 +1,26 @@
+-- Spans of one text compared by positions. A text is read as a function from positions to letters.
+-- Assumes nothing.
+use mathlib.Core.Path.{_≡_}
+use Prim.Native.Nat.{ℕ, _+_, _<_, _≤_}
+use Rattle.words.specs.Letters.{Letters, Smaller}
+
+-- The letters from i and from j on are the same below offset d.
+abbrev pub Agree : {A : Type 0} → (ℕ → A) → ℕ → ℕ → ℕ → Type 0
+Agree x i j d = (k : ℕ) → k < d → x (i + k) ≡ x (j + k)
+
+-- What stands at i is below what stands at j: they agree up to an offset inside the span that ends at e, and there i has the smaller letter.
+pub record BelowWithin {A : Type 0} (O : Letters A) (x : ℕ → A) (i j e : ℕ) : Type 0 where
+  pub offset : ℕ
+  pub inside : j + offset < e
+  pub agree : Agree x i j offset
+  pub smaller : Smaller O (x (i + offset)) (x (j + offset))
+
+-- The span from a to b is a Lyndon word, by positions: below each of its proper suffixes by a letter inside it.
+pub record SpanLyndon {A : Type 0} (O : Letters A) (x : ℕ → A) (a b : ℕ) : Type 0 where
+  pub non-empty : a < b
+  pub below : (k : ℕ) → a < k → k < b → BelowWithin O x a k b
+
+-- The span from i to e is smaller than the span from j to f, by positions.
+pub data SpanLess {A : Type 0} (O : Letters A) (x : ℕ → A) (i e j f : ℕ) : Type 0 where
+  differs : (d : ℕ) → i + d < e → j + d < f → Agree x i j d → Smaller O (x (i + d)) (x (j + d)) → SpanLess O x i e j f
+  shorter : (d : ℕ) → i + d ≡ e → j + d < f → Agree x i j d → SpanLess O x i e j f

@@ -1,0 +1,16 @@
+pub mod Letters
+pub mod Tabulate
+pub mod Equality
+pub mod Word
+pub mod Lyndon
+pub mod LyndonArray
+pub mod Factorization
+pub mod SuffixTable
+pub mod CutTree
+pub mod RightForest
+pub mod LeftForest
+pub mod Runs
+pub mod ValidArray
+pub mod Laws
+pub mod Compute
+pub mod ExactlyOne

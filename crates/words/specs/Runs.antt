@@ -1,0 +1,56 @@
+-- The runs of a text. Only equality of letters is used.
+-- Assumes nothing.
+use mathlib.Core.Path.{_≡_}
+use mathlib.Core.Logic.{_⊎_}
+use mathlib.Core.List.{List, [], _∷_, List·Memᴰ}
+use mathlib.Core.Option.{Option}
+use Prim.Native.Nat.{ℕ, suc, _+_, _<_, _≤_}
+use lib.ListN.{length, getElem?}
+
+-- The letters at i and at k are equal.
+abbrev pub SameLetter : {A : Type 0} → List A → ℕ → ℕ → Type 0
+SameLetter x i k = getElem? x i ≡ getElem? x k
+
+-- p is a period of the span from s to e: letters at distance p in it are equal.
+abbrev pub HasPeriod : {A : Type 0} → List A → ℕ → ℕ → ℕ → Type 0
+HasPeriod x s e p = (i : ℕ) → s ≤ i → i + p < e → SameLetter x i (i + p)
+
+-- The span from s to e is a run of smallest period p (document 002, "Runs (1)"; document 01: "a span whose smallest period p has 2p ≤
+-- its length, and which has no neighbour letter that continues period p").
+pub record Run {A : Type 0} (x : List A) (s e p : ℕ) : Type 0 where
+  pub positive : 0 < p
+  pub twice : s + (p + p) ≤ e
+  pub inside : e ≤ length x
+  pub period : HasPeriod x s e p
+  pub smallest : (q : ℕ) → 0 < q → q < p → ¬ HasPeriod x s e q
+  pub no-left : (i : ℕ) → s ≡ suc i → ¬ SameLetter x i (i + p)
+  pub no-right : (i : ℕ) → e ≡ i + p → e < length x → ¬ SameLetter x i e
+
+-- One entry of a run list: start, last position and period.
+pub record Entry : Type 0 where
+  pub start : ℕ
+  pub last : ℕ
+  pub period : ℕ
+
+-- By start and then by last position.
+abbrev pub Earlier : Entry → Entry → Type 0
+Earlier r t = (r .start < t .start) ⊎ ((r .start ≡ t .start) × (r .last < t .last))
+
+-- Each entry stands before all that follow it.
+abbrev pub Sorted : List Entry → Type 0
+Sorted [] = Unit {0}
+Sorted (r ∷ rs) = ((t : Entry) → List·Memᴰ t rs → Earlier r t) × Sorted rs
+
+abbrev pub IsRun : {A : Type 0} → List A → Entry → Type 0
+IsRun x r = Run x (r .start) (suc (r .last)) (r .period)
+
+-- rs lists the runs of x: it holds an entry exactly when it is a run, by start and then by last position, none twice.
+pub record IsRunList {A : Type 0} (x : List A) (rs : List Entry) : Type 0 where
+  pub sound : (r : Entry) → List·Memᴰ r rs → IsRun x r
+  pub complete : (r : Entry) → IsRun x r → List·Memᴰ r rs
+  pub sorted : Sorted rs
+
+-- The numbers that a run list is written as: start, last position, period for each run.
+abbrev pub numbers : List Entry → List ℕ
+numbers [] = []
+numbers (r ∷ rs) = r .start ∷ r .last ∷ r .period ∷ numbers rs

@@ -1,0 +1,62 @@
+-- What an example comes to by computation, and that it then holds: each form that computes satisfies its definition.
+-- Assumes nothing.
+use mathlib.Core.Path.{_≡_, subst, ap}
+use mathlib.Core.List.{List, [], _∷_}
+use Prim.Native.Nat.{ℕ}
+use Rattle.words.specs.Letters.{rising, orderOf, decided-rising, decided-order}
+use Rattle.words.specs.LyndonArray.{IsLyndonArray}
+use Rattle.words.specs.Factorization.{IsFactorization}
+use Rattle.words.specs.SuffixTable.{IsSuffixTable}
+use Rattle.words.specs.RightForest.{IsRightForest}
+use Rattle.words.specs.LeftForest.{IsLeftForest}
+use Rattle.words.specs.ValidArray.{Fault, textFor}
+use Rattle.words.specs.Compute.LyndonArray.{arrayOf, arrayOf-right}
+use Rattle.words.specs.Compute.Factorization.{factorizationOf, factorizationOf-right}
+use Rattle.words.specs.Compute.SuffixTable.{suffixTableOf, suffixTableOf-right}
+use Rattle.words.specs.Compute.Forest.{rightFirstOf, rightPastOf, leftFirstOf, leftPastOf, rightForestOf-right, leftForestOf-right}
+use Rattle.words.specs.Compute.ValidArray.{Verdict, fits, fault, HasVerdict, checkArray, checkArray-right}
+use Rattle.answer.specs.Faults.{reasonFor}
+use Rattle.answer.specs.Reasons.{numberOf}
+use Rattle.worked.specs.Example.{Example, array, factors, suffix-table, right-forest, left-forest, text, refused, Holds, AllHold}
+
+-- The computed value is the one that the example gives.
+abbrev pub Computed : Example → Type 0
+Computed (array o x a) = arrayOf (decided-order o) x ≡ a
+Computed (factors x s) = factorizationOf decided-rising x ≡ s
+Computed (suffix-table x t) = suffixTableOf decided-rising x ≡ t
+Computed (right-forest x f p) =
+    let s = factorizationOf decided-rising x in (rightFirstOf decided-rising x s ≡ f) × (rightPastOf decided-rising x s ≡ p)
+Computed (left-forest x f p) =
+    let s = factorizationOf decided-rising x in (leftFirstOf decided-rising x s ≡ f) × (leftPastOf decided-rising x s ≡ p)
+Computed (text a x) = (checkArray a ≡ fits) × (textFor a ≡ x) × (arrayOf decided-rising x ≡ a)
+Computed (refused a r p) = (f : Fault) × (checkArray a ≡ fault f p) × (numberOf (reasonFor f) ≡ r)
+
+pub computed-holds : (e : Example) → Computed e → Holds e
+computed-holds (array o x a) h = subst (IsLyndonArray (orderOf o) x) h (arrayOf-right (decided-order o) x)
+computed-holds (factors x s) h = subst (IsFactorization rising x) h (factorizationOf-right decided-rising x)
+computed-holds (suffix-table x t) h = subst (IsSuffixTable rising x) h (suffixTableOf-right decided-rising x)
+computed-holds (right-forest x f p) h =
+    subst (λ (q : List ℕ). IsRightForest rising x f q) (h .1)
+    (subst (λ (g : List ℕ). IsRightForest rising x g (rightPastOf decided-rising x (factorizationOf decided-rising x))) (h .0)
+    (rightForestOf-right decided-rising x (factorizationOf-right decided-rising x)))
+computed-holds (left-forest x f p) h =
+    subst (λ (q : List ℕ). IsLeftForest rising x f q) (h .1)
+    (subst (λ (g : List ℕ). IsLeftForest rising x g (leftPastOf decided-rising x (factorizationOf decided-rising x))) (h .0)
+    (leftForestOf-right decided-rising x (factorizationOf-right decided-rising x)))
+computed-holds (text a x) h =
+    record {
+      valid = subst (HasVerdict a) (h .0) (checkArray-right a);
+      is = h .1;
+      has = subst (IsLyndonArray rising x) (h .2) (arrayOf-right decided-rising x);
+    }
+computed-holds (refused a r p) h =
+    record { fault = h .0; first = subst (HasVerdict a) (h .1) (checkArray-right a); numbered = h .2 }
+
+-- Every example of a table comes out by computation.
+abbrev pub AllComputed : List Example → Type 0
+AllComputed [] = Unit {0}
+AllComputed (e ∷ es) = Computed e × AllComputed es
+
+pub all-computed-hold : (es : List Example) → AllComputed es → AllHold es
+all-computed-hold [] h = tt
+all-computed-hold (e ∷ es) h = (computed-holds e (h .0), all-computed-hold es (h .1))
