@@ -2,3 +2,4 @@ pub mod Reasons
 pub mod Answers
 pub mod Limits
 pub mod Faults
+pub mod Checks
