@@ -1,1 +1,4 @@
 // The Lyndon array of a text.
+mod places;
+mod joined;
+mod bytes;

@@ -22,7 +22,6 @@ pub record Remembered {A : Type 0} (x : ℕ → A) (n : ℕ) (lam buf : ℕ → 
   pub last : ℕ
   pub last-is : suc last ≡ c + lam c
   pub next-agree : c + lam c < n → Agree x c (c + lam c) (buf last)
-  pub next-fits : c + lam c < n → buf last ≤ lam (c + lam c)
   pub part : ℕ
   pub part-after : c < part
   pub part-before : part < c + lam c
@@ -45,7 +44,6 @@ pub record Front {A : Type 0} (x : ℕ → A) (n : ℕ) (lam buf : ℕ → ℕ) 
 -- The number s that is known of the factor at j.
 pub record Known {A : Type 0} (x : ℕ → A) (n : ℕ) (lam buf : ℕ → ℕ) (j s : ℕ) : Type 0 where
   pub agree : j + lam j < n → Agree x j (j + lam j) s
-  pub fits : j + lam j < n → s ≤ lam (j + lam j)
   pub short : s < lam j
   pub inner : (d : ℕ) → 0 < d → d ≤ s → buf (j + d) ≡ lam (j + d)
   pub part-agree : (d : ℕ) → 0 < d → d ≤ s → d + lam (j + d) ≡ lam j → ((t : ℕ) → j < t → t < j + d → ¬ Agree x j t d) → Agree x j (j + d) s
@@ -59,6 +57,12 @@ pub record LastPart {A : Type 0} (x : ℕ → A) (lam : ℕ → ℕ) (i j g : �
   pub earlier : (t : ℕ) → i < t → t < part → t + lam t ≤ part
   pub agree : Agree x i part g
 
+-- Every entry below j is final, and the rows go on from j.
+pub record Restoring {A : Type 0} (x : ℕ → A) (n : ℕ) (lam buf : ℕ → ℕ) (j : ℕ) : Type 0 where
+  pub inside : j ≤ n
+  pub final : (t : ℕ) → t < j → buf t ≡ lam t
+  pub rows : Rows x n lam buf j
+
 -- The word from i has been joined up to j, and agrees with what follows on k letters.
 pub record Joining {A : Type 0} (O : Letters A) (x : ℕ → A) (n : ℕ) (lam buf : ℕ → ℕ) (i j k g : ℕ) : Type 0 where
   pub lyndon : SpanLyndon O x i j
@@ -66,9 +70,7 @@ pub record Joining {A : Type 0} (O : Letters A) (x : ℕ → A) (n : ℕ) (lam b
   pub covered : (t : ℕ) → i < t → t < j → t + lam t ≤ j
   pub inner : (t : ℕ) → i < t → t < j → buf t ≡ lam t
   pub rows : Rows x n lam buf j
-  pub short : i + k < j
   pub agree : j < n → Agree x i j k
-  pub fits : j < n → k ≤ lam j
   pub joined : (j ≡ suc i) ⊎ LastPart x lam i j g
 
 module _ {A : Type 0} (x : ℕ → A) (n : ℕ) (lam : ℕ → ℕ) where
@@ -85,7 +87,6 @@ module _ {A : Type 0} (x : ℕ → A) (n : ℕ) (lam : ℕ → ℕ) where
         last = m .last;
         last-is = m .last-is;
         next-agree = λ l. subst (λ (d : ℕ). Agree x c (c + lam c) d) (sym e) (m .next-agree l);
-        next-fits = λ l. subst (λ (d : ℕ). d ≤ lam (c + lam c)) (sym e) (m .next-fits l);
         part = m .part;
         part-after = m .part-after;
         part-before = m .part-before;
@@ -129,7 +130,6 @@ module _ {A : Type 0} (O : Letters A) (x : ℕ → A) (n : ℕ) (lam : ℕ → �
   known-letter buf j l e =
       record {
         agree = λ h k m. absurd (omega arith);
-        fits = λ h. omega arith;
         short = omega arith;
         inner = λ d p q. absurd (omega arith);
         part-agree = λ d p q. absurd (omega arith);
@@ -142,7 +142,6 @@ module _ {A : Type 0} (O : Letters A) (x : ℕ → A) (n : ℕ) (lam : ℕ → �
       (m .part-before) (m .part-agree) in
       record {
         agree = m .next-agree;
-        fits = m .next-fits;
         short = omega (arith, m .part-after);
         inner = λ d p q. m .inner (j + d) (omega arith) (omega (arith, m .part-after));
         part-agree = λ d p q e h. subst (λ (t : ℕ). Agree x j t (buf (m .last))) (same d p q e h) (m .part-agree);
@@ -168,6 +167,24 @@ module _ {A : Type 0} (O : Letters A) (x : ℕ → A) (n : ℕ) (lam : ℕ → �
           let b : t + lam t ≤ j + lam j = next-nests O x n j (j + lam j) t (t + lam t) (next j l) p (omega arith) m in
           omega (arith, m .after)
 
+  -- Once the last place of the factor at j has its entry back, all entries of the factor are final.
+  pub restored-factor : (buf buf′ : ℕ → ℕ) (j : ℕ) → j < n → Rows x n lam buf j → ((t : ℕ) → t < n → ¬ (suc t ≡ j + lam j) → buf′ t ≡ buf t) →
+      ((t : ℕ) → suc t ≡ j + lam j → buf′ t ≡ 1) → (t : ℕ) → j ≤ t → t < j + lam j → buf′ t ≡ lam t
+  restored-factor buf buf′ j l rows kept reset t p q = entry (ℕ-discrete (suc t) (j + lam j))
+    where
+      fr : Front x n lam buf j
+      fr = front x n lam buf j l rows
+
+      inner : ¬ (suc t ≡ j + lam j) → Dec (j < t) → buf t ≡ lam t
+      inner m (yes r) = fr .remembered (omega (arith, m)) .inner t r (omega (arith, m))
+      inner m (no r) =
+          let e : j ≡ t = omega (arith, r) in
+          subst (λ (z : ℕ). buf z ≡ lam z) e (fr .own)
+
+      entry : Dec (suc t ≡ j + lam j) → buf′ t ≡ lam t
+      entry (yes e) = reset t e ∙ sym (last-place j t l e)
+      entry (no e) = kept t (omega (arith, next j l .inside)) e ∙ inner e (decLt j t)
+
   -- A single letter, before anything is joined to it.
   pub joining-start : (buf : ℕ → ℕ) (i : ℕ) → i < n → Rows x n lam buf (suc i) → Joining O x n lam buf i (suc i) 0 0
   joining-start buf i l r =
@@ -177,27 +194,36 @@ module _ {A : Type 0} (O : Letters A) (x : ℕ → A) (n : ℕ) (lam : ℕ → �
         covered = λ t p q. absurd (omega arith);
         inner = λ t p q. absurd (omega arith);
         rows = r;
-        short = omega arith;
         agree = λ m k h. absurd (omega arith);
-        fits = λ m. omega arith;
         joined = inl refl;
+      }
+
+  -- The same, once more letters are known to agree.
+  pub joining-agreed : (buf : ℕ → ℕ) (i j k₀ k g : ℕ) → Joining O x n lam buf i j k₀ g → (j < n → Agree x i j k) → Joining O x n lam buf i j k g
+  joining-agreed buf i j k₀ k g w a =
+      record {
+        lyndon = w .lyndon;
+        inside = w .inside;
+        covered = w .covered;
+        inner = w .inner;
+        rows = w .rows;
+        agree = a;
+        joined = w .joined;
       }
 
   -- The word from i is joined with the factor at j, whose last place gets its entry back.
   pub joining-step : (buf buf′ : ℕ → ℕ) (i j k₀ g₀ k s k′ : ℕ) → Joining O x n lam buf i j k₀ g₀ → j < n → Known x n lam buf j s → Agree x i j k →
-      k ≤ lam j → SpanLess O x i j j (j + lam j) → k′ ≤ k → k′ ≤ s → ((t : ℕ) → t < n → ¬ (suc t ≡ j + lam j) → buf′ t ≡ buf t) →
+      SpanLess O x i j j (j + lam j) → k′ ≤ k → k′ ≤ s → ((t : ℕ) → t < n → ¬ (suc t ≡ j + lam j) → buf′ t ≡ buf t) →
       ((t : ℕ) → suc t ≡ j + lam j → buf′ t ≡ 1) → Joining O x n lam buf′ i (j + lam j) k′ k
-  joining-step buf buf′ i j k₀ g₀ k s k′ w l known g f less a b kept reset =
+  joining-step buf buf′ i j k₀ g₀ k s k′ w l known g less a b kept reset =
       record {
         lyndon = lyndon-join O x n i j (j + lam j) (w .lyndon) (next-lyndon O x n j (j + lam j) nj) less;
         inside = nj .inside;
         covered = λ t p q. reach t p q (decLt t j) (decLt j t);
-        inner = λ t p q. entry t p q (ℕ-discrete (suc t) (j + lam j));
+        inner = λ t p q. entry t p q (decLt t j);
         rows = rows-same x n lam buf buf′ (j + lam j) (λ t p q. kept t q (λ e. omega arith)) (fr .rest);
-        short = omega (arith, known .short, w .short);
         agree =
             λ m. agree-trans x i j (j + lam j) k′ (agree-less x i j k k′ g a) (agree-less x j (j + lam j) s k′ (known .agree m) b);
-        fits = λ m. omega (arith, known .fits m);
         joined =
             inr
             (record {
@@ -223,16 +249,9 @@ module _ {A : Type 0} (O : Letters A) (x : ℕ → A) (n : ℕ) (lam : ℕ → �
           let e : j ≡ t = omega (arith, h, r) in
           subst (λ (z : ℕ). z + lam z ≤ j + lam j) e (omega arith)
 
-      inside : (t : ℕ) → i < t → t < j + lam j → ¬ (suc t ≡ j + lam j) → Dec (t < j) → Dec (j < t) → buf t ≡ lam t
-      inside t p q m (yes h) r = w .inner t p h
-      inside t p q m (no h) (yes r) = fr .remembered (omega (arith, m)) .inner t r (omega (arith, m))
-      inside t p q m (no h) (no r) =
-          let e : j ≡ t = omega (arith, h, r) in
-          subst (λ (z : ℕ). buf z ≡ lam z) e (fr .own)
-
-      entry : (t : ℕ) → i < t → t < j + lam j → Dec (suc t ≡ j + lam j) → buf′ t ≡ lam t
-      entry t p q (yes e) = reset t e ∙ sym (last-place j t l e)
-      entry t p q (no e) = kept t (omega (arith, nj .inside)) e ∙ inside t p q e (decLt t j) (decLt j t)
+      entry : (t : ℕ) → i < t → t < j + lam j → Dec (t < j) → buf′ t ≡ lam t
+      entry t p q (yes h) = kept t (omega (arith, nj .inside)) (λ e. omega (arith, nj .after)) ∙ w .inner t p h
+      entry t p q (no h) = restored-factor buf buf′ j l (w .rows) kept reset t (omega (arith, h)) q
 
   -- The factor at j is not smaller than the word before it: their first different letters say so.
   pub leave-letter : (i j k : ℕ) → SpanLyndon O x i j → j + k < n → Agree x i j k → Smaller O (x (j + k)) (x (i + k)) → NextSmaller O x n i j
@@ -333,9 +352,6 @@ module _ {A : Type 0} (O : Letters A) (x : ℕ → A) (n : ℕ) (lam : ℕ → �
                     λ l.
                     subst (λ (z : ℕ). Agree x i z (buf′ (j - 1))) (sym is)
                     (subst (λ (z : ℕ). Agree x i j z) (sym at-last) (agree-less x i j k s (w .agree (omega (arith, is))) a));
-                next-fits =
-                    λ l.
-                    subst (λ (z : ℕ). buf′ (j - 1) ≤ lam z) (sym is) (omega (arith, at-last, w .fits (omega (arith, is))));
                 part = p .part;
                 part-after = p .after;
                 part-before = omega (arith, is, p .before);
@@ -345,6 +361,19 @@ module _ {A : Type 0} (O : Letters A) (x : ℕ → A) (n : ℕ) (lam : ℕ → �
                     subst (λ (z : ℕ). Agree x i (p .part) z) (sym at-last) (agree-less x i (p .part) g s (p .agree) b);
               }
 
--- Every entry below j is final.
-abbrev pub Final : (ℕ → ℕ) → (ℕ → ℕ) → ℕ → Type 0
-Final lam buf j = (t : ℕ) → t < j → buf t ≡ lam t
+  pub restoring-start : (buf : ℕ → ℕ) → Rows x n lam buf 0 → Restoring x n lam buf 0
+  restoring-start buf r = record { inside = omega arith; final = λ t p. absurd (omega arith); rows = r }
+
+  -- The factor at j gets its last entry back, and the next one is looked at.
+  pub restoring-step : (buf buf′ : ℕ → ℕ) (j : ℕ) → Restoring x n lam buf j → j < n → ((t : ℕ) → t < n → ¬ (suc t ≡ j + lam j) → buf′ t ≡ buf t) →
+      ((t : ℕ) → suc t ≡ j + lam j → buf′ t ≡ 1) → Restoring x n lam buf′ (j + lam j)
+  restoring-step buf buf′ j w l kept reset =
+      record {
+        inside = next j l .inside;
+        final = λ t p. go t p (decLt t j);
+        rows = rows-same x n lam buf buf′ (j + lam j) (λ t p q. kept t q (λ e. omega arith)) (front x n lam buf j l (w .rows) .rest);
+      }
+    where
+      go : (t : ℕ) → t < j + lam j → Dec (t < j) → buf′ t ≡ lam t
+      go t p (yes h) = kept t (omega arith) (λ e. omega (arith, next j l .after)) ∙ w .final t h
+      go t p (no h) = restored-factor buf buf′ j l (w .rows) kept reset t (omega (arith, h)) p

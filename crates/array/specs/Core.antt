@@ -1,0 +1,4 @@
+pub mod Joining
+pub mod State
+pub mod Order
+pub mod Join

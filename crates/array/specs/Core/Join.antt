@@ -1,0 +1,57 @@
+-- What the join loop hands back.
+-- Assumes nothing.
+use mathlib.Core.Path.{_≡_}
+use mathlib.Core.List.{List}
+use Prim.Native.Nat.{ℕ, zero, suc, _+_, _-_, _<_, _≤_}
+use lib.ListN.{length, getD}
+use Rattle.words.specs.Letters.{Letters, orderOf}
+use Rattle.words.specs.Laws.SpanLyndon.{letters}
+use Rattle.words.specs.Laws.Position.{Agree, SpanLess}
+use Rattle.words.specs.Laws.SuffixOrder.{NextSmaller}
+use Rattle.array.specs.Core.State.{entryOf}
+use Rattle.array.specs.Core.Joining.{Joining}
+use Rattle.array.specs.declared.joined.Joined.{Joined}
+use Rattle.array.specs.declared.joined.Comparison.{Comparison}
+use Rattle.array.specs.declared.joined.Comparison.the-variants.{Below, Same, Above}
+
+-- The word from i to j, and the factor of length l at j, are equal.
+abbrev pub SameWord : List ℕ → ℕ → ℕ → ℕ → Type 0
+SameWord x i j l = (i + l ≡ j) × Agree (letters 0 x) i j l
+
+-- What the comparison that ended the joining of the word from i at j says; k is how far it went.
+abbrev pub Stopped : ℕ → List ℕ → ℕ → ℕ → ℕ → Comparison → Type 0
+Stopped order x i j k Below = ⊥
+Stopped order x i j k Same = (j < length x) × SameWord x i j (entryOf order x j)
+Stopped order x i j k Above =
+    j < length x →
+    (¬ SameWord x i j (entryOf order x j)) × (k < entryOf order x j → ¬ (letters 0 x (i + k) ≡ letters 0 x (j + k)))
+
+-- Only places after i and below n have changed.
+pub record ChangedAfter (before after : List ℕ) (i n : ℕ) : Type 0 where
+  pub size : length after ≡ length before
+  pub kept : (t : ℕ) → ¬ ((i < t) × (t < n)) → getD after t 0 ≡ getD before t 0
+
+-- The word from i is joined up to its next smaller suffix.
+pub record JoinedTo (order : ℕ) (x before after : List ℕ) (i : ℕ) (r : Joined) : Type 0 where
+  pub changed : ChangedAfter before after i (length x)
+  pub joining : Joining (orderOf order) (letters 0 x) (length x) (entryOf order x) (letters 0 after) i (r .end) (r .agreed) (r .part)
+  pub next : NextSmaller (orderOf order) (letters 0 x) (length x) i (r .end)
+  pub stopped : Stopped order x i (r .end) (r .agreed) (r .stop)
+
+-- The state of the join loop of position i: the buffer at the start, the buffer now, and how far it has come.
+pub record JoinLoop (order : ℕ) (x before buf : List ℕ) (i j k g : ℕ) : Type 0 where
+  pub changed : ChangedAfter before buf i (length x)
+  pub joining : Joining (orderOf order) (letters 0 x) (length x) (entryOf order x) (letters 0 buf) i j k g
+
+-- The letters from i and from j on agree on k letters.
+pub record Agreeing (x : List ℕ) (i j k : ℕ) : Type 0 where
+  pub agree : Agree (letters 0 x) i j k
+
+-- What the comparison of the word from i to j with the factor at j says, and how far they agree.
+abbrev pub Compared : ℕ → List ℕ → ℕ → ℕ → ℕ → Comparison → Type 0
+Compared order x i j k Below =
+    Agree (letters 0 x) i j k × SpanLess (orderOf order) (letters 0 x) i j j (j + entryOf order x j)
+Compared order x i j k Same =
+    Agree (letters 0 x) i j k × NextSmaller (orderOf order) (letters 0 x) (length x) i j × Stopped order x i j k Same
+Compared order x i j k Above =
+    Agree (letters 0 x) i j k × NextSmaller (orderOf order) (letters 0 x) (length x) i j × Stopped order x i j k Above
