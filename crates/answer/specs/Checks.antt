@@ -1,5 +1,6 @@
 -- The checks of document 01's table ("Where each check stands"), each with what follows where it does not refuse, and what a buffer holds after a call.
 -- Assumes nothing.
+use mathlib.Core.Path.{_≡_, sym, ap, _∙_}
 use mathlib.Core.Bool.{Bool, true, false}
 use mathlib.Core.List.{List, _++_}
 use Prim.Native.Nat.{ℕ}
@@ -8,8 +9,9 @@ use lib.ListN.{length, drop}
 use Rattle.answer.specs.declared.Answer.{Answer}
 use Rattle.answer.specs.declared.Outcome.{Outcome}
 use Rattle.answer.specs.declared.Outcome.the-variants.{Accepted, Refused}
+use Rattle.answer.specs.declared.Reason.{Reason}
 use Rattle.answer.specs.declared.Reason.the-variants.{EmptyInput, TooLong, UnknownOrder, ShortOutput, ShortWork}
-use Rattle.answer.specs.Answers.{refusedFor}
+use Rattle.answer.specs.Answers.{acceptedWith, refusedFor}
 use Rattle.answer.specs.Limits.{maxLength}
 
 -- The first answer where the test passes, else the second.
@@ -45,3 +47,13 @@ contentIn (Refused reason position) l before = before
 -- What a buffer holds after an answer.
 abbrev pub contentAfter : Answer → List ℕ → List ℕ → List ℕ
 contentAfter a l before = contentIn (a .outcome) l before
+
+-- A refused call leaves a buffer as it was.
+pub content-refused : (a : Answer) (reason : Reason) (position : ℕ) → a ≡ refusedFor reason position → (l before : List ℕ) →
+    before ≡ contentAfter a l before
+content-refused a reason position e l before = sym (ap (λ (b : Answer). contentAfter b l before) e)
+
+-- An accepted call leaves what it has written.
+pub content-accepted : (a : Answer) (count : ℕ) → a ≡ acceptedWith count → (l before after : List ℕ) → after ≡ written l before →
+    after ≡ contentAfter a l before
+content-accepted a count e l before after h = h ∙ sym (ap (λ (b : Answer). contentAfter b l before) e)

@@ -30,6 +30,7 @@ known-remembered order x buf j l r = go (decLt 1 (entryOf order x j))
   where
     f : Front (letters 0 x) (length x) (entryOf order x) (letters 0 buf) j
     f = front (letters 0 x) (length x) (entryOf order x) (letters 0 buf) j l r
+
     go : Dec (1 < entryOf order x j) → Known (letters 0 x) (length x) (entryOf order x) (letters 0 buf) j (rememberedAt buf j (entryOf order x j))
     go (yes h) =
         let m = f .remembered h in
@@ -79,8 +80,8 @@ comparing order x before buf i j k₀ g₀ l s w inside fits small el es =
     let e : l ≡ entryOf order x j = el ∙ entry-own order x buf j inside (w .joining .rows) in
     let nj = entry-next order x j inside in
     let known : Known (letters 0 x) (length x) (entryOf order x) (letters 0 buf) j s =
-        subst (λ (t : ℕ). Known (letters 0 x) (length x) (entryOf order x) (letters 0 buf) j t) (sym (es ∙ ap (rememberedAt buf j) e))
-        (known-remembered order x buf j inside (w .joining .rows)) in
+    subst (λ (t : ℕ). Known (letters 0 x) (length x) (entryOf order x) (letters 0 buf) j t) (sym (es ∙ ap (rememberedAt buf j) e))
+    (known-remembered order x buf j inside (w .joining .rows)) in
     record {
       loop = w;
       inside = inside;
@@ -91,7 +92,8 @@ comparing order x before buf i j k₀ g₀ l s w inside fits small el es =
       positive = omega (arith, nj .after);
       ends = omega (arith, nj .inside);
       known = known;
-      short = omega (arith, known .short) }
+      short = omega (arith, known .short);
+    }
 
 module _ (order : ℕ) (x before buf : List ℕ) (i j k₀ g₀ l s : ℕ) (w : Comparing order x before buf i j k₀ g₀ l s) (k : ℕ) where
   lyndon : SpanLyndon (orderOf order) (letters 0 x) i j
@@ -133,18 +135,20 @@ module _ (order : ℕ) (x before buf : List ℕ) (i j k₀ g₀ l s : ℕ) (w : 
   -- A difference inside both, the word's letter the smaller one.
   pub letter-below : Agreeing x i j k → k < l → k < j - i → ¬ (getD x (i + k) 0 ≡ getD x (j + k) 0) →
       smallerIn order (getD x (i + k) 0) (getD x (j + k) 0) ≡ true → Compared order x i j k Below
-  letter-below g h q d e =
-      (g .agree,
-      differs k (omega arith) (omega (arith, w .is-length)) (g .agree) (smallerIn-below order (getD x (i + k) 0) (getD x (j + k) 0) d e))
+  letter-below g h q d e = (
+    g .agree,
+    differs k (omega arith) (omega (arith, w .is-length)) (g .agree) (smallerIn-below order (getD x (i + k) 0) (getD x (j + k) 0) d e),
+  )
 
   -- A difference inside both, the factor's letter the smaller one.
   pub letter-above : Agreeing x i j k → k < l → k < j - i → ¬ (getD x (i + k) 0 ≡ getD x (j + k) 0) →
       smallerIn order (getD x (i + k) 0) (getD x (j + k) 0) ≡ false → Compared order x i j k Above
-  letter-above g h q d e =
-      (g .agree,
-      leave-letter (orderOf order) (letters 0 x) (length x) (entryOf order x) (entry-next order x) i j k lyndon (omega (arith, w .ends)) (g .agree)
-      (smallerIn-above order (getD x (i + k) 0) (getD x (j + k) 0) d e),
-      λ q′. (λ z. d (z .1 k (omega (arith, w .is-length))), λ q″. d))
+  letter-above g h q d e = (
+    g .agree,
+    leave-letter (orderOf order) (letters 0 x) (length x) (entryOf order x) (entry-next order x) i j k lyndon (omega (arith, w .ends)) (g .agree)
+        (smallerIn-above order (getD x (i + k) 0) (getD x (j + k) 0) d e),
+    λ q′. (λ z. d (z .1 k (omega (arith, w .is-length))), λ q″. d),
+  )
 
   -- The word has ended without a difference, and is shorter than the factor.
   pub word-below : Agreeing x i j k → k ≡ j - i → j - i < l → Compared order x i j k Below
@@ -155,8 +159,8 @@ module _ (order : ℕ) (x before buf : List ℕ) (i j k₀ g₀ l s : ℕ) (w : 
       Compared order x i j (j - i + s) Below
   leap-below g e h q m =
       let r =
-          shortcut (orderOf order) (letters 0 x) (length x) (entryOf order x) (entry-next order x) (letters 0 buf) i j (j - i) s lyndon (w .inside)
-          (omega (arith, w .after)) (agree-less (letters 0 x) i j k (j - i) (g .agree) (omega arith)) (w .known) q (m ∙ w .is-length) in
+      shortcut (orderOf order) (letters 0 x) (length x) (entryOf order x) (entry-next order x) (letters 0 buf) i j (j - i) s lyndon (w .inside)
+      (omega (arith, w .after)) (agree-less (letters 0 x) i j k (j - i) (g .agree) (omega arith)) (w .known) q (m ∙ w .is-length) in
       (r .0, word-below g e h .1)
 
 -- Changes of the buffer.
@@ -191,21 +195,24 @@ join-step order x before buf i j k₀ g₀ l s w k k′ c a b =
     subst (λ (m : ℕ). JoinLoop order x before (restoredAt buf j m) i (j + m) k′ k) (sym (w .is-length))
     (record {
       changed =
-        record {
-          size = restored-length buf j m ∙ w .loop .changed .size;
-          kept =
-            λ t h. restored-kept buf j m t (λ e. h (omega (arith, w .after, nj .after), omega (arith, nj .inside))) ∙ w .loop .changed .kept t h };
+          record {
+            size = restored-length buf j m ∙ w .loop .changed .size;
+            kept =
+                λ t h. restored-kept buf j m t (λ e. h (omega (arith, w .after, nj .after), omega (arith, nj .inside))) ∙ w .loop .changed .kept t h;
+          };
       joining =
-        joining-step (orderOf order) (letters 0 x) (length x) (entryOf order x) (entry-next order x) (letters 0 buf) (letters 0 (restoredAt buf j m)) i j k₀ g₀ k s k′
-        (w .loop .joining) (w .inside) (w .known) (c .0) (c .1) a b (λ t p h. restored-kept buf j m t h)
-        (λ t e.
-        restored-one buf j m t (omega (arith, nj .inside, w .fits))
-        (λ q.
-        let z : t ≡ j = omega (arith, nj .after) in
-        ap (λ (u : ℕ). getD buf u 0) z ∙ entry-own order x buf j (w .inside) (w .loop .joining .rows) ∙ omega (arith, nj .after)) e) })
+          joining-step (orderOf order) (letters 0 x) (length x) (entryOf order x) (entry-next order x) (letters 0 buf) (letters 0 (restoredAt buf j m)) i j k₀ g₀ k s k′
+          (w .loop .joining) (w .inside) (w .known) (c .0) (c .1) a b (λ t p h. restored-kept buf j m t h)
+          (λ t e.
+          restored-one buf j m t (omega (arith, nj .inside, w .fits))
+          (λ q.
+          let z : t ≡ j = omega (arith, nj .after) in
+          ap (λ (u : ℕ). getD buf u 0) z ∙ entry-own order x buf j (w .inside) (w .loop .joining .rows) ∙ omega (arith, nj .after)) e);
+    })
   where
     m : ℕ
     m = entryOf order x j
+
     nj : NextSmaller (orderOf order) (letters 0 x) (length x) j (j + m)
     nj = entry-next order x j (w .inside)
 
@@ -217,8 +224,9 @@ join-start order x buf i l r =
     (record {
       changed = record { size = refl; kept = λ t h. refl };
       joining =
-        joining-start (orderOf order) (letters 0 x) (length x) (entryOf order x) (entry-next order x) (letters 0 buf) i l
-        (subst (λ (j : ℕ). RowsOf order x buf j) e r) })
+          joining-start (orderOf order) (letters 0 x) (length x) (entryOf order x) (entry-next order x) (letters 0 buf) i l
+          (subst (λ (j : ℕ). RowsOf order x buf j) e r);
+    })
 
 -- The comparison said same, or above: the word ends at its next smaller suffix.
 pub joined-same : (order : ℕ) (x before buf : List ℕ) (i j k₀ g₀ l s : ℕ) → Comparing order x before buf i j k₀ g₀ l s → (k : ℕ) →
@@ -227,10 +235,11 @@ joined-same order x before buf i j k₀ g₀ l s w k c =
     record {
       changed = w .loop .changed;
       joining =
-        joining-agreed (orderOf order) (letters 0 x) (length x) (entryOf order x) (entry-next order x) (letters 0 buf) i j k₀ k g₀ (w .loop .joining)
-        (λ q. c .0);
+          joining-agreed (orderOf order) (letters 0 x) (length x) (entryOf order x) (entry-next order x) (letters 0 buf) i j k₀ k g₀ (w .loop .joining)
+          (λ q. c .0);
       next = c .1;
-      stopped = c .2 }
+      stopped = c .2;
+    }
 
 pub joined-above : (order : ℕ) (x before buf : List ℕ) (i j k₀ g₀ l s : ℕ) → Comparing order x before buf i j k₀ g₀ l s → (k : ℕ) →
     Compared order x i j k Above → JoinedTo order x before buf i (record { end = j; agreed = k; part = g₀; stop = Above })
@@ -238,10 +247,11 @@ joined-above order x before buf i j k₀ g₀ l s w k c =
     record {
       changed = w .loop .changed;
       joining =
-        joining-agreed (orderOf order) (letters 0 x) (length x) (entryOf order x) (entry-next order x) (letters 0 buf) i j k₀ k g₀ (w .loop .joining)
-        (λ q. c .0);
+          joining-agreed (orderOf order) (letters 0 x) (length x) (entryOf order x) (entry-next order x) (letters 0 buf) i j k₀ k g₀ (w .loop .joining)
+          (λ q. c .0);
       next = c .1;
-      stopped = c .2 }
+      stopped = c .2;
+    }
 
 -- The text ended.
 pub joined-end : (order : ℕ) (x before buf : List ℕ) (i j k g : ℕ) → JoinLoop order x before buf i j k g → length x ≤ j →
@@ -252,7 +262,8 @@ joined-end order x before buf i j k g w h =
       changed = w .changed;
       joining = w .joining;
       next =
-        subst (λ (m : ℕ). NextSmaller (orderOf order) (letters 0 x) (length x) i m) e
-        (leave-end (orderOf order) (letters 0 x) (length x) (entryOf order x) (entry-next order x) i
-        (subst (λ (m : ℕ). SpanLyndon (orderOf order) (letters 0 x) i m) (sym e) (w .joining .lyndon)));
-      stopped = λ q. absurd (omega arith) }
+          subst (λ (m : ℕ). NextSmaller (orderOf order) (letters 0 x) (length x) i m) e
+          (leave-end (orderOf order) (letters 0 x) (length x) (entryOf order x) (entry-next order x) i
+          (subst (λ (m : ℕ). SpanLyndon (orderOf order) (letters 0 x) i m) (sym e) (w .joining .lyndon)));
+      stopped = λ q. absurd (omega arith);
+    }

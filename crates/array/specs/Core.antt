@@ -2,3 +2,4 @@ pub mod Joining
 pub mod State
 pub mod Order
 pub mod Join
+pub mod Fill

@@ -3,16 +3,27 @@ ghost use mathlib.Core.Path.{_≡_};
 ghost use Prim.Native.Nat.{_+_, _-_, _≤_, _<_};
 ghost use lib.ListN.{length};
 ghost use Rattle.array.specs.Core.State.{rememberedAt, restoredAt, storedAt};
+ghost use Rattle.array.specs.Core.Fill.{HasRows, AllRestored};
 
 // A stored number as a position.
-pub fn wide(x: u32) -> usize
+pub(crate) fn wide(x: u32) -> usize
     ensures { λ r. ⌜ r ≡ x ⌝ }
 {
     x as usize
 }
 
+// The smaller of two numbers.
+pub(crate) fn smaller_of(a: usize, b: usize) -> usize
+    ensures { λ r. ⌜ (r ≤ a) × (r ≤ b) ⌝ }
+{
+    if a < b {
+        return a;
+    }
+    b
+}
+
 // The number remembered at the last place of the factor of length l at j.
-pub fn remembered(buf: &[u32], j: usize, l: usize) -> usize
+pub(crate) fn remembered(buf: &[u32], j: usize, l: usize) -> usize
     requires { ⌜ j + l ≤ length (now buf) ⌝ }
     ensures { λ r. ⌜ r ≡ rememberedAt (now (buf .entry)) j l ⌝ }
 {
@@ -23,7 +34,7 @@ pub fn remembered(buf: &[u32], j: usize, l: usize) -> usize
 }
 
 // Gives the last place of the factor of length l at j its entry back.
-pub fn restore(buf: &mut [u32], j: usize, l: usize)
+pub(crate) fn restore(buf: &mut [u32], j: usize, l: usize)
     requires { ⌜ j + l ≤ length (now buf) ⌝ }
     ensures { λ r. ⌜ now (buf .exit) ≡ restoredAt (now (buf .entry)) j l ⌝ }
 {
@@ -32,14 +43,27 @@ pub fn restore(buf: &mut [u32], j: usize, l: usize)
     }
 }
 
-// Stores the length of the word from i to e, and s at its last place.
-pub fn store(buf: &mut [u32], i: usize, e: usize, s: usize)
-    requires { ⌜ (i < e) × (e ≤ length (now buf)) × (e ≤ 1048576) × (s ≤ 1048576) ⌝ }
+// Stores the length of the word from i to e, and s at its last place if it has two letters or more.
+pub(crate) fn store(buf: &mut [u32], i: usize, e: usize, s: usize)
+    requires { ⌜ (i < e) × (e ≤ length (now buf)) × (e ≤ 1048576) × (1 < e - i → s ≤ 1048576) ⌝ }
     ensures { λ r. ⌜ now (buf .exit) ≡ storedAt (now (buf .entry)) i e s ⌝ }
 {
     let l = e - i;
     buf[i] = l as u32;
     if 1 < l {
         buf[e - 1] = s as u32;
+    }
+}
+
+// Gives the last places of all factors their entries back.
+pub(crate) fn restore_all(buf: &mut [u32], n: usize)
+    requires { ⌜ HasRows (now buf) n ⌝ }
+    ensures { λ r. ⌜ AllRestored (now (buf .entry)) (now (buf .exit)) n ⌝ }
+{
+    let mut j: usize = 0;
+    while j < n {
+        let l = wide(buf[j]);
+        restore(buf, j, l);
+        j += l;
     }
 }

@@ -1,0 +1,156 @@
+// The Lyndon array of a text of 32-bit letters.
+use crate::joined::Comparison;
+use crate::joined::Joined;
+use crate::places;
+use answer::Answer;
+use answer::Reason;
+use answer::limits;
+ghost use mathlib.Core.Path.{_≡_};
+ghost use Prim.Native.Nat.{_+_, _-_, _≤_, _<_};
+ghost use lib.ListN.{length};
+ghost use Rattle.array.specs.Core.State.{RowsOf};
+ghost use Rattle.array.specs.Core.Order.{smallerIn};
+ghost use Rattle.array.specs.Core.Join.{JoinedTo};
+ghost use Rattle.array.specs.Core.Fill.{Filled};
+ghost use Rattle.array.specs.Calls.{arrayAnswer};
+ghost use Rattle.answer.specs.Checks.{written, contentAfter};
+ghost use Rattle.words.specs.Letters.{decided-order};
+ghost use Rattle.words.specs.Compute.LyndonArray.{arrayOf};
+
+// Letter a is the smaller one of two different letters.
+fn smaller(a: u32, b: u32, order: u32) -> bool
+    ensures { λ r. ⌜ r ≡ smallerIn order a b ⌝ }
+{
+    if order == 0 {
+        return a < b;
+    }
+    b < a
+}
+
+// Joins to the letter at i the factors after it, as long as the word so far is smaller than the next factor.
+fn join(text: &[u32], order: u32, buf: &mut [u32], i: usize) -> Joined
+    requires { ⌜ (i < length (now text)) × (length (now text) ≤ length (now buf)) × (length (now text) ≤ 1048576) × RowsOf order (now text) (now buf) (i + 1) ⌝ }
+    ensures { λ r. ⌜ JoinedTo order (now (text .entry)) (now (buf .entry)) (now (buf .exit)) i r ⌝ }
+{
+    let n = text.len();
+    let mut j = i + 1;
+    let mut k: usize = 0;
+    let mut g: usize = 0;
+    while j < n {
+        let l = places::wide(buf[j]);
+        let d = j - i;
+        let s = places::remembered(buf, j, l);
+        // The comparison of the word so far with the next factor, from the letters that are known to agree on.
+        let c = loop {
+            if l <= k {
+                if d == l {
+                    break Comparison::Same;
+                }
+                break Comparison::Above;
+            }
+            let a = text[i + k];
+            let b = text[j + k];
+            if a != b {
+                if d <= k {
+                    break Comparison::Below;
+                }
+                if smaller(a, b, order) {
+                    break Comparison::Below;
+                }
+                break Comparison::Above;
+            }
+            k += 1;
+            if k == d {
+                if d < l {
+                    if s < d {
+                        break Comparison::Below;
+                    }
+                    if d + places::wide(buf[j + d]) == l {
+                        k = d + s;
+                        break Comparison::Below;
+                    }
+                }
+            }
+        };
+        match c {
+            Comparison::Below => {
+                places::restore(buf, j, l);
+                g = k;
+                if s < k {
+                    k = s;
+                }
+                j += l;
+            }
+            Comparison::Same => {
+                return Joined {
+                    end: j,
+                    agreed: k,
+                    part: g,
+                    stop: Comparison::Same,
+                };
+            }
+            Comparison::Above => {
+                return Joined {
+                    end: j,
+                    agreed: k,
+                    part: g,
+                    stop: Comparison::Above,
+                };
+            }
+        }
+    }
+    Joined {
+        end: j,
+        agreed: k,
+        part: g,
+        stop: Comparison::Above,
+    }
+}
+
+// Joins at every position from the last to the first.
+fn fill(text: &[u32], order: u32, buf: &mut [u32])
+    requires { ⌜ (length (now text) ≤ length (now buf)) × (length (now text) ≤ 1048576) ⌝ }
+    ensures { λ r. ⌜ Filled order (now (text .entry)) (now (buf .entry)) (now (buf .exit)) 0 ⌝ }
+{
+    let mut i = text.len();
+    while 0 < i {
+        i -= 1;
+        let w = join(text, order, buf, i);
+        let end = w.end;
+        let agreed = w.agreed;
+        let part = w.part;
+        places::store(buf, i, end, places::smaller_of(agreed, part));
+    }
+}
+
+// Writes the Lyndon array of the text.
+fn compute(text: &[u32], order: u32, buf: &mut [u32])
+    requires { ⌜ (length (now text) ≤ length (now buf)) × (length (now text) ≤ 1048576) ⌝ }
+    ensures { λ r. ⌜ now (buf .exit) ≡ written (arrayOf (decided-order order) (now (text .entry))) (now (buf .entry)) ⌝ }
+{
+    fill(text, order, buf);
+    places::restore_all(buf, text.len());
+}
+
+// The Lyndon array of a text of 32-bit letters, in order 0 (rising) or 1 (falling): for every position the length of the longest Lyndon word
+// that starts there. Refused by document 01's checks 1, 2, 3 and 4.
+pub fn lyndon_array(text: &[u32], order: u32, out: &mut [u32]) -> Answer
+    ensures answer { λ r. ⌜ r ≡ arrayAnswer (length (now (text .entry))) order (length (now (out .entry))) ⌝ }
+    ensures content { λ r. ⌜ now (out .exit) ≡ contentAfter r (arrayOf (decided-order order) (now (text .entry))) (now (out .entry)) ⌝ }
+{
+    let n = text.len();
+    if n == 0 {
+        return answer::refused(Reason::EmptyInput, 0);
+    }
+    if limits::MAX_LENGTH < n {
+        return answer::refused(Reason::TooLong, 0);
+    }
+    if 1 < order {
+        return answer::refused(Reason::UnknownOrder, 0);
+    }
+    if out.len() < n {
+        return answer::refused(Reason::ShortOutput, 0);
+    }
+    compute(text, order, out);
+    answer::accepted(n as u32)
+}
