@@ -13,4 +13,6 @@ pub mod Unique
 pub mod ForestUnique
 pub mod Runs
 pub mod RunRenaming
+pub mod Periods
+pub mod RunRoots
 pub mod ValidArray
