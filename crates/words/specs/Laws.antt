@@ -15,4 +15,5 @@ pub mod Runs
 pub mod RunRenaming
 pub mod Periods
 pub mod RunRoots
+pub mod RunListing
 pub mod ValidArray
