@@ -13,6 +13,7 @@ pub mod Unique
 pub mod ForestUnique
 pub mod Runs
 pub mod RunRenaming
+pub mod Different
 pub mod Periods
 pub mod RunRoots
 pub mod RunListing
