@@ -17,4 +17,5 @@ pub mod Different
 pub mod Periods
 pub mod RunRoots
 pub mod RunListing
+pub mod EachRunOnce
 pub mod ValidArray
