@@ -17,5 +17,6 @@ pub mod Different
 pub mod Periods
 pub mod RunRoots
 pub mod RunListing
+pub mod RunMarks
 pub mod EachRunOnce
 pub mod ValidArray

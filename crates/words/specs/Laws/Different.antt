@@ -3,7 +3,7 @@
 use mathlib.Core.Path.{_≡_, refl, sym, ap, subst, _∙_}
 use mathlib.Core.Logic.{_⊎_, inl, inr}
 use mathlib.Core.List.{List, [], _∷_, _++_, List·Memᴰ, List·Memᴰ·head, List·Memᴰ·tail, List·Memᴰ·not-nil, List·Memᴰ·cases-cons, List·Memᴰ·append-cases, List·Memᴰ·eq-of-singleton, Memᴰ·cast}
-use Prim.Native.Nat.{ℕ, zero, suc, _+_, _<_, _≤_}
+use Prim.Native.Nat.{ℕ, zero, suc, _<_, _≤_}
 use native.Mathlib.Omega.{arith}
 use native.Mathlib.Decide.{ℕ-discrete}
 use lib.ListN.{length}
@@ -106,9 +106,9 @@ module _ {B : Type 0} where
       let w : Without c bs = without c bs (g c (List·Memᴰ·head refl)) in (
         once,
         different-rearranged cs (w .rest) (w .different h .1)
-        (λ b m. forth w b m (List·Memᴰ·cases-cons (f b (w .kept b m))))
-        (λ b m. back w b m (w .others b (g b (List·Memᴰ·tail m))))
-        (omega (arith, w .shorter)),
+            (λ b m. forth w b m (List·Memᴰ·cases-cons (f b (w .kept b m))))
+            (λ b m. back w b m (w .others b (g b (List·Memᴰ·tail m))))
+            (omega (arith, w .shorter)),
       )
     where
       into : List·Memᴰ c cs → (b : B) → (b ≡ c) ⊎ List·Memᴰ b cs → List·Memᴰ b cs

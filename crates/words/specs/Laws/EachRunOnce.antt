@@ -1,27 +1,21 @@
 -- The entries listed position by position from the last to the first, under an order and then under the reversed one, are the runs,
--- each once; and different runs are fewer than the letters of the text.
+-- each once; in order they are the run list.
 -- Assumes nothing.
-use mathlib.Core.Path.{_≡_, refl, sym, ap, subst, _∙_}
+use mathlib.Core.Path.{_≡_, refl, sym, subst}
 use mathlib.Core.Logic.{_⊎_, inl, inr}
 use mathlib.Core.List.{List, [], _∷_, _++_, List·Memᴰ, List·Memᴰ·head, List·Memᴰ·tail, List·Memᴰ·not-nil, List·Memᴰ·append-cases, List·Memᴰ·eq-of-singleton, Memᴰ·append-left, Memᴰ·append-right}
-use Prim.Native.Nat.{ℕ, zero, suc, _+_, _-_, _<_, _≤_}
+use Prim.Native.Nat.{ℕ, suc, _+_, _<_, _≤_}
 use native.Mathlib.Omega.{arith}
 use native.Mathlib.Decide.{decLt, ℕ-discrete}
 use lib.ListN.{length, length-append}
 use Rattle.words.specs.Letters.{Letters, reversed}
 use Rattle.words.specs.Runs.{Run, Entry, Earlier, Sorted, IsRun, IsRunList}
 use Rattle.words.specs.Laws.SpanLyndon.{letters}
-use Rattle.words.specs.Laws.SuffixOrder.{NextSmaller}
-use Rattle.words.specs.Laws.NextSmaller.{next-unique}
 use Rattle.words.specs.Laws.Decided.{AllCompared}
 use Rattle.words.specs.Laws.Runs.{run-period-unique}
-use Rattle.words.specs.Laws.Different.{Different, different-append, different-snoc, different-rearranged, marked-fewer}
-use Rattle.words.specs.Laws.Periods.{SpanRun, run-span, span-run}
-use Rattle.words.specs.Laws.RunListing.{Extent, ListedAt, extent-unique, listed-run, listed-unique, listed-once, listed-after-start, listed-one-order, listed-one-each, run-listed}
-
--- Position i lists the entry r.
-abbrev pub ListedEntry : {A : Type 0} → Letters A → (ℕ → A) → ℕ → ℕ → ℕ → Entry → Type 0
-ListedEntry O x n bound i r = ListedAt O x n bound i (r .start) (suc (r .last)) (r .period)
+use Rattle.words.specs.Laws.Different.{Different, different-append, different-snoc, different-rearranged}
+use Rattle.words.specs.Laws.RunListing.{listed-once, listed-one-order}
+use Rattle.words.specs.Laws.RunMarks.{ListedEntry, entry-equal, listed-entry-unique, listed-is-run, RunMark, run-mark, runs-fewer}
 
 -- A position from i on lists the entry r.
 pub record ListedFrom {A : Type 0} (O : Letters A) (x : ℕ → A) (n bound i : ℕ) (r : Entry) : Type 0 where
@@ -42,25 +36,7 @@ pub record EachRunOnce {A : Type 0} (x : List A) (rs : List Entry) : Type 0 wher
   pub complete : (r : Entry) → IsRun x r → List·Memᴰ r rs
   pub different : Different rs
 
-pub entry-equal : (r t : Entry) → r .start ≡ t .start → r .last ≡ t .last → r .period ≡ t .period → r ≡ t
-entry-equal r t a b c = λ i. record { start = a i; last = b i; period = c i }
-
 module _ {A : Type 0} (O : Letters A) (x : ℕ → A) (n bound : ℕ) where
-  pub listed-entry-unique : (i : ℕ) (r t : Entry) → ListedEntry O x n bound i r → ListedEntry O x n bound i t → r ≡ t
-  listed-entry-unique i r t h k =
-      let u = listed-unique O x n bound i (r .start) (suc (r .last)) (r .period) bound (t .start) (suc (t .last)) (t .period) h k in
-      entry-equal r t (u .0) (omega (arith, u .1)) (u .2)
-
-  -- A position whose measure fails a test of ListedAt lists nothing.
-  pub unlisted : (i s e p : ℕ) → NextSmaller O x n i (i + p) → Extent x n i s e p →
-      ¬ ((s + (p + p) ≤ e) × (e < i + (p + p)) × (e < bound)) → (r : Entry) → ¬ ListedEntry O x n bound i r
-  unlisted i s e p w m f r h =
-      let c : i + p ≡ i + r .period = next-unique O x n i (i + p) (i + r .period) w (h .next) in
-      let d : r .period ≡ p = omega arith in
-      let u = extent-unique x n i s e p (r .start) (suc (r .last)) m
-          (subst (λ (q : ℕ). Extent x n i (r .start) (suc (r .last)) q) d (h .extent)) in
-      f (omega (arith, h .twice, u .0, u .1), omega (arith, h .last, u .1), omega (arith, h .early, u .1))
-
   -- Before the first step nothing is listed.
   pub lists-none : ListsDown O x n bound n []
   lists-none =
@@ -123,63 +99,10 @@ module _ {A : Type 0} (O : Letters A) (x : ℕ → A) (n bound : ℕ) where
           }
 
       into : (r : Entry) → ListedEntry O x n bound i r ⊎ ListedFrom O x n bound (suc i) r → List·Memᴰ r (rs ++ (t ∷ []))
-      into r (inl w) = Memᴰ·append-right rs (List·Memᴰ·head (listed-entry-unique i r t w k))
+      into r (inl w) = Memᴰ·append-right rs (List·Memᴰ·head (listed-entry-unique O x n bound i r t w k))
       into r (inr w) = Memᴰ·append-left (t ∷ []) (h .complete r w)
 
 module _ {A : Type 0} (O : Letters A) (z : A) (x : List A) where
-  -- What is listed is a run.
-  pub listed-is-run : (bound i : ℕ) (r : Entry) → ListedEntry O (letters z x) (length x) bound i r → IsRun x r
-  listed-is-run bound i r h =
-      span-run z x (r .start) (suc (r .last)) (r .period)
-      (listed-run O (letters z x) (length x) bound i (r .start) (suc (r .last)) (r .period) h)
-
-module _ {A : Type 0} (O : Letters A) (z : A) (x : List A) where
-  -- A position at which a run is listed, under one order or the other.
-  abbrev pub RunMark : Entry → ℕ → Type 0
-  RunMark r i =
-      ListedEntry O (letters z x) (length x) (suc (length x)) i r ⊎ ListedEntry (reversed O) (letters z x) (length x) (length x) i r
-
-  pub run-mark : AllCompared O (letters z x) (length x) → (r : Entry) → IsRun x r → (i : ℕ) × RunMark r i
-  run-mark compared r h =
-      go
-      (run-listed O (letters z x) (length x) compared (r .start) (suc (r .last)) (r .period)
-      (run-span z x (r .start) (suc (r .last)) (r .period) h))
-    where
-      go : ((i : ℕ) × ListedEntry O (letters z x) (length x) (suc (length x)) i r) ⊎
-          ((i : ℕ) × ListedEntry (reversed O) (letters z x) (length x) (length x) i r) → (i : ℕ) × RunMark r i
-      go (inl w) = (w .0, inl (w .1))
-      go (inr w) = (w .0, inr (w .1))
-
-  -- A position is the mark of one run at most.
-  pub run-mark-unique : (r t : Entry) (i : ℕ) → RunMark r i → RunMark t i → r ≡ t
-  run-mark-unique r t i (inl h) (inl k) = listed-entry-unique O (letters z x) (length x) (suc (length x)) i r t h k
-  run-mark-unique r t i (inr h) (inr k) = listed-entry-unique (reversed O) (letters z x) (length x) (length x) i r t h k
-  run-mark-unique r t i (inl h) (inr k) =
-      absurd
-      (listed-one-each O (letters z x) (length x) (suc (length x)) i (r .start) (suc (r .last)) (r .period) (t .start) (suc (t .last))
-      (t .period) h k)
-  run-mark-unique r t i (inr h) (inl k) =
-      absurd
-      (listed-one-each O (letters z x) (length x) (suc (length x)) i (t .start) (suc (t .last)) (t .period) (r .start) (suc (r .last))
-      (r .period) k h)
-
-  -- No mark is the first position.
-  run-mark-range : (r : Entry) (i : ℕ) → RunMark r i → (0 < i) × (i < length x)
-  run-mark-range r i (inl h) =
-      let l : r .start < i =
-      listed-after-start O (letters z x) (length x) (suc (length x)) i (r .start) (suc (r .last)) (r .period) h in
-      (omega arith, omega (arith, h .next .after, h .next .inside))
-  run-mark-range r i (inr h) =
-      let l : r .start < i =
-      listed-after-start (reversed O) (letters z x) (length x) (length x) i (r .start) (suc (r .last)) (r .period) h in
-      (omega arith, omega (arith, h .next .after, h .next .inside))
-
-  -- The runs theorem: different runs of a text are fewer than its letters.
-  pub runs-fewer : AllCompared O (letters z x) (length x) → 0 < length x → (rs : List Entry) → Different rs →
-      ((r : Entry) → List·Memᴰ r rs → IsRun x r) → length rs < length x
-  runs-fewer compared pos rs h f =
-      marked-fewer RunMark run-mark-unique (length x) pos run-mark-range rs h (λ r m. run-mark compared r (f r m))
-
   -- What is listed under O from i on and under the reversed order from k on is different.
   pub lists-different : (i k : ℕ) (rs ts : List Entry) → ListsDown O (letters z x) (length x) (suc (length x)) i rs →
       ListsDown (reversed O) (letters z x) (length x) (length x) k ts → Different (rs ++ ts)
@@ -201,10 +124,10 @@ module _ {A : Type 0} (O : Letters A) (z : A) (x : List A) where
       go (inr l) = let v = g .sound r l in listed-is-run (reversed O) z x (length x) (v .place) r (v .listed)
 
   -- At every step of the two passes fewer entries are written than the text has letters.
-  pub lists-fewer : AllCompared O (letters z x) (length x) → 0 < length x → (i k : ℕ) (rs ts : List Entry) →
+  pub lists-fewer : 0 < length x → (i k : ℕ) (rs ts : List Entry) →
       ListsDown O (letters z x) (length x) (suc (length x)) i rs → ListsDown (reversed O) (letters z x) (length x) (length x) k ts →
       length (rs ++ ts) < length x
-  lists-fewer compared pos i k rs ts h g = runs-fewer compared pos (rs ++ ts) (lists-different i k rs ts h g) (lists-sound i k rs ts h g)
+  lists-fewer pos i k rs ts h g = runs-fewer O z x pos (rs ++ ts) (lists-different i k rs ts h g) (lists-sound i k rs ts h g)
 
   -- Both passes together hold every run once.
   pub each-run-once : AllCompared O (letters z x) (length x) → (rs ts : List Entry) →
@@ -213,11 +136,11 @@ module _ {A : Type 0} (O : Letters A) (z : A) (x : List A) where
   each-run-once compared rs ts h g =
       record {
         sound = lists-sound 0 0 rs ts h g;
-        complete = λ r w. go r (run-mark compared r w);
+        complete = λ r w. go r (run-mark O z x compared r w);
         different = lists-different 0 0 rs ts h g;
       }
     where
-      go : (r : Entry) → (i : ℕ) × RunMark r i → List·Memᴰ r (rs ++ ts)
+      go : (r : Entry) → (i : ℕ) × RunMark O z x r i → List·Memᴰ r (rs ++ ts)
       go r (i, inl w) = Memᴰ·append-left ts (h .complete r (record { place = i; low = omega arith; listed = w }))
       go r (i, inr w) = Memᴰ·append-right rs (g .complete r (record { place = i; low = omega arith; listed = w }))
 

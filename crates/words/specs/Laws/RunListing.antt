@@ -1,12 +1,12 @@
 -- Every run is listed at one position under one of the two orders: at its last Lyndon root, whose next smaller suffix is one period on.
 -- Assumes nothing.
-use mathlib.Core.Path.{_≡_, refl, sym, ap, subst, _∙_}
+use mathlib.Core.Path.{_≡_, sym, ap, subst, _∙_}
 use mathlib.Core.Logic.{_⊎_, inl, inr}
-use Prim.Native.Nat.{ℕ, zero, suc, _+_, _-_, _<_, _≤_}
+use Prim.Native.Nat.{ℕ, suc, _+_, _-_, _<_, _≤_}
 use native.Mathlib.Omega.{arith}
 use native.Mathlib.Decide.{decLt, ℕ-discrete}
 use Rattle.words.specs.Letters.{Letters, Smaller, reversed, Comparison, below, same, above, Means, turned, turned-means}
-use Rattle.words.specs.Laws.Position.{Agree, BelowWithin, SpanLyndon}
+use Rattle.words.specs.Laws.Position.{Agree, BelowWithin}
 use Rattle.words.specs.Laws.SuffixOrder.{SuffixLess, ends, parts, NextSmaller, suffix-cancel, agree-sym}
 use Rattle.words.specs.Laws.NextSmaller.{next-lyndon, next-unique, next-nests, lyndon-next}
 use Rattle.words.specs.Laws.Decided.{AllCompared}

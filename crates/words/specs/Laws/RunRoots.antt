@@ -11,7 +11,7 @@ use Rattle.words.specs.Laws.Letters.{smaller-trans, Compared}
 use Rattle.words.specs.Laws.Position.{Agree, BelowWithin, SpanLyndon}
 use Rattle.words.specs.Laws.SuffixOrder.{agree-sym, agree-trans, agree-less, agree-shift}
 use Rattle.words.specs.Laws.Decided.{AllCompared}
-use Rattle.words.specs.Laws.Periods.{SpanPeriod, SpanRun}
+use Rattle.words.specs.Laws.Periods.{SpanRun}
 
 -- What stands at i in a sequence without end is below what stands at j.
 pub record BelowFrom {A : Type 0} (O : Letters A) (y : ℕ → A) (i j : ℕ) : Type 0 where
