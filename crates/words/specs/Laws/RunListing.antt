@@ -219,14 +219,19 @@ module _ {A : Type 0} (O : Letters A) (x : ℕ → A) (n : ℕ) where
               let b′ : i + u ≡ t = omega (arith, l, q, it) in
               subst (λ (k : ℕ). Smaller O (x e) (x k)) b′ (subst (λ (k : ℕ). Smaller O (x k) (x (i + u))) a′ v)
 
+  -- A position has one distance to its next smaller suffix, and that period one extent.
+  pub measure-unique : (i s e p s′ e′ p′ : ℕ) → NextSmaller O x n i (i + p) → Extent x n i s e p → NextSmaller O x n i (i + p′) →
+      Extent x n i s′ e′ p′ → (s ≡ s′) × (e ≡ e′) × (p ≡ p′)
+  measure-unique i s e p s′ e′ p′ w m w′ m′ =
+      let c : i + p ≡ i + p′ = next-unique O x n i (i + p) (i + p′) w w′ in
+      let d : p′ ≡ p = omega arith in
+      let u = extent-unique x n i s e p s′ e′ m (subst (λ (q : ℕ). Extent x n i s′ e′ q) d m′) in
+      (u .0, u .1, sym d)
+
   -- A position lists one run at most.
   pub listed-unique : (bound i s e p bound′ s′ e′ p′ : ℕ) → ListedAt O x n bound i s e p → ListedAt O x n bound′ i s′ e′ p′ →
       (s ≡ s′) × (e ≡ e′) × (p ≡ p′)
-  listed-unique bound i s e p bound′ s′ e′ p′ r r′ =
-      let c : i + p ≡ i + p′ = next-unique O x n i (i + p) (i + p′) (r .next) (r′ .next) in
-      let d : p′ ≡ p = omega arith in
-      let u = extent-unique x n i s e p s′ e′ (r .extent) (subst (λ (q : ℕ). Extent x n i s′ e′ q) d (r′ .extent)) in
-      (u .0, u .1, sym d)
+  listed-unique bound i s e p bound′ s′ e′ p′ r r′ = measure-unique i s e p s′ e′ p′ (r .next) (r .extent) (r′ .next) (r′ .extent)
 
   -- No later position lists the same run under the same order.
   listed-no-later : (bound i bound′ i′ s e p : ℕ) → ListedAt O x n bound i s e p → ListedAt O x n bound′ i′ s e p → i′ ≤ i

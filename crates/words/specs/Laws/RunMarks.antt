@@ -1,9 +1,9 @@
 -- Every run has a mark of its own, the position that lists it, so that different runs are fewer than the letters of the text.
 -- Assumes nothing.
 use mathlib.Core.Path.{_≡_, subst}
-use mathlib.Core.Logic.{_⊎_, inl, inr}
+use mathlib.Core.Logic.{_⊎_, inl, inr, _↔_}
 use mathlib.Core.List.{List, List·Memᴰ}
-use Prim.Native.Nat.{ℕ, suc, _+_, _-_, _<_, _≤_}
+use Prim.Native.Nat.{ℕ, zero, suc, _+_, _-_, _<_, _≤_}
 use native.Mathlib.Omega.{arith}
 use native.Mathlib.Decide.{decLt}
 use lib.ListN.{length}
@@ -11,11 +11,10 @@ use Rattle.words.specs.Letters.{Letters, reversed}
 use Rattle.words.specs.Runs.{Entry, IsRun}
 use Rattle.words.specs.Laws.SpanLyndon.{letters}
 use Rattle.words.specs.Laws.SuffixOrder.{NextSmaller}
-use Rattle.words.specs.Laws.NextSmaller.{next-unique}
 use Rattle.words.specs.Laws.Decided.{AllCompared, all-compared-irrefutable}
 use Rattle.words.specs.Laws.Different.{Different, marked-fewer}
 use Rattle.words.specs.Laws.Periods.{run-span, span-run}
-use Rattle.words.specs.Laws.RunListing.{Extent, ListedAt, extent-unique, listed-run, listed-unique, listed-after-start, listed-one-each, run-listed}
+use Rattle.words.specs.Laws.RunListing.{Extent, ListedAt, measure-unique, listed-run, listed-unique, listed-after-start, listed-one-each, run-listed}
 
 -- Position i lists the entry r.
 abbrev pub ListedEntry : {A : Type 0} → Letters A → (ℕ → A) → ℕ → ℕ → ℕ → Entry → Type 0
@@ -27,6 +26,16 @@ entryOf s e p = record { start = s; last = e - 1; period = p }
 
 pub entry-equal : (r t : Entry) → r .start ≡ t .start → r .last ≡ t .last → r .period ≡ t .period → r ≡ t
 entry-equal r t a b c = λ i. record { start = a i; last = b i; period = c i }
+
+-- The bound on ends for an order number: under order 0 runs may reach the end of the text, under order 1 not.
+abbrev pub endBound : ℕ → ℕ → ℕ
+endBound zero n = suc n
+endBound (suc order) n = n
+
+-- An end is below the bound exactly under order 0 or inside the text.
+pub end-below : (order n e : ℕ) → e ≤ n → (e < endBound order n) ↔ (0 < order → e < n)
+end-below zero n e l = (λ h k. absurd (omega arith), λ h. omega arith)
+end-below (suc order) n e l = (λ h k. h, λ h. h (omega arith))
 
 module _ {A : Type 0} (O : Letters A) (x : ℕ → A) (n bound : ℕ) where
   -- What a position lists, as an entry.
@@ -45,11 +54,9 @@ module _ {A : Type 0} (O : Letters A) (x : ℕ → A) (n bound : ℕ) where
   pub unlisted : (i s e p : ℕ) → NextSmaller O x n i (i + p) → Extent x n i s e p →
       ¬ ((s + (p + p) ≤ e) × (e < i + (p + p)) × (e < bound)) → (r : Entry) → ¬ ListedEntry O x n bound i r
   unlisted i s e p w m f r h =
-      let c : i + p ≡ i + r .period = next-unique O x n i (i + p) (i + r .period) w (h .next) in
-      let d : r .period ≡ p = omega arith in
-      let u = extent-unique x n i s e p (r .start) (suc (r .last)) m
-      (subst (λ (q : ℕ). Extent x n i (r .start) (suc (r .last)) q) d (h .extent)) in
-      f (omega (arith, h .twice, u .0, u .1), omega (arith, h .last, u .1), omega (arith, h .early, u .1))
+      let u = measure-unique O x n i s e p (r .start) (suc (r .last)) (r .period) w m (h .next) (h .extent) in
+      f
+      (omega (arith, h .twice, u .0, u .1, u .2), omega (arith, h .last, u .1, u .2), omega (arith, h .early, u .1))
 
 module _ {A : Type 0} (O : Letters A) (z : A) (x : List A) where
   -- What is listed is a run.
