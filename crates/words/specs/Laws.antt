@@ -13,4 +13,10 @@ pub mod Unique
 pub mod ForestUnique
 pub mod Runs
 pub mod RunRenaming
+pub mod Different
+pub mod Periods
+pub mod RunRoots
+pub mod RunListing
+pub mod RunMarks
+pub mod EachRunOnce
 pub mod ValidArray

@@ -1,11 +1,12 @@
 -- A text has one run list, and a run has one period.
 -- Assumes nothing.
-use mathlib.Core.Path.{_≡_, refl, sym, subst}
+use mathlib.Core.Path.{_≡_, refl, sym, ap, subst}
 use mathlib.Core.Logic.{_⊎_, inl, inr}
-use mathlib.Core.List.{List, [], _∷_, List·Memᴰ, List·Memᴰ·head, List·Memᴰ·tail, List·Memᴰ·not-nil, List·Memᴰ·cases-cons}
-use Prim.Native.Nat.{ℕ, _<_}
+use mathlib.Core.List.{List, [], _∷_, _++_, List·Memᴰ, List·Memᴰ·head, List·Memᴰ·tail, List·Memᴰ·not-nil, List·Memᴰ·cases-cons}
+use Prim.Native.Nat.{ℕ, _*_, _<_}
 use native.Mathlib.Omega.{arith}
-use Rattle.words.specs.Runs.{HasPeriod, Run, Entry, Earlier, Sorted, IsRunList}
+use lib.ListN.{length}
+use Rattle.words.specs.Runs.{HasPeriod, Run, Entry, Earlier, Sorted, IsRunList, numbers}
 
 -- A property of positive numbers has at most one smallest.
 pub smallest-unique :
@@ -67,3 +68,12 @@ sorted-unique (r ∷ rs) (t ∷ ts) h k f g =
 pub run-list-unique : {A : Type 0} {x : List A} {rs ts : List Entry} → IsRunList x rs → IsRunList x ts → rs ≡ ts
 run-list-unique {rs = rs} {ts = ts} a b =
     sorted-unique rs ts (a .sorted) (b .sorted) (λ r m. b .complete r (a .sound r m)) (λ r m. a .complete r (b .sound r m))
+
+-- The numbers of joined lists, and how many there are.
+pub numbers-append : (rs ts : List Entry) → numbers (rs ++ ts) ≡ numbers rs ++ numbers ts
+numbers-append [] ts = refl
+numbers-append (r ∷ rs) ts = ap (λ (ns : List ℕ). r .start ∷ r .last ∷ r .period ∷ ns) (numbers-append rs ts)
+
+pub numbers-length : (rs : List Entry) → length (numbers rs) ≡ 3 * length rs
+numbers-length [] = refl
+numbers-length (r ∷ rs) = omega (arith, numbers-length rs)

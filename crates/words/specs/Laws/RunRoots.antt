@@ -1,0 +1,318 @@
+-- The least rotation of a periodic sequence is a Lyndon word; every run has one, at its rightmost place.
+-- Assumes nothing.
+use mathlib.Core.Path.{_≡_, refl, sym, ap, subst, _∙_}
+use mathlib.Core.Logic.{_⊎_, inl, inr}
+use Prim.Native.Nat.{ℕ, zero, suc, _+_, _-_, _%_, _<_, _≤_}
+use native.Mathlib.Nat.{mod-lt, mod-eq-of-lt, add-mod-right}
+use native.Mathlib.Omega.{arith}
+use native.Mathlib.Decide.{decLt, ℕ-discrete}
+use Rattle.words.specs.Letters.{Letters, Smaller, Comparison, below, same, above, Means}
+use Rattle.words.specs.Laws.Letters.{smaller-trans, Compared}
+use Rattle.words.specs.Laws.Position.{Agree, BelowWithin, SpanLyndon}
+use Rattle.words.specs.Laws.SuffixOrder.{agree-sym, agree-trans, agree-less, agree-shift}
+use Rattle.words.specs.Laws.Decided.{AllCompared}
+use Rattle.words.specs.Laws.Periods.{SpanRun}
+
+-- What stands at i in a sequence without end is below what stands at j.
+pub record BelowFrom {A : Type 0} (O : Letters A) (y : ℕ → A) (i j : ℕ) : Type 0 where
+  pub offset : ℕ
+  pub agree : Agree y i j offset
+  pub smaller : Smaller O (y (i + offset)) (y (j + offset))
+
+module _ {A : Type 0} (O : Letters A) (y : ℕ → A) where
+  from-irrefl : (i : ℕ) → ¬ BelowFrom O y i i
+  from-irrefl i w = w .smaller .0 refl
+
+  from-trans : (i j k : ℕ) → BelowFrom O y i j → BelowFrom O y j k → BelowFrom O y i k
+  from-trans i j k p q = go (decLt c d) (decLt d c)
+    where
+      c : ℕ
+      c = p .offset
+
+      d : ℕ
+      d = q .offset
+
+      go : Dec (c < d) → Dec (d < c) → BelowFrom O y i k
+      go (yes l) m =
+          record {
+            offset = c;
+            agree = agree-trans y i j k c (p .agree) (agree-less y j k d c (q .agree) (omega arith));
+            smaller = subst (λ (z : A). Smaller O (y (i + c)) z) (q .agree c l) (p .smaller);
+          }
+      go (no l) (yes m) =
+          record {
+            offset = d;
+            agree = agree-trans y i j k d (agree-less y i j c d (p .agree) (omega arith)) (q .agree);
+            smaller = subst (λ (z : A). Smaller O z (y (k + d))) (sym (p .agree d m)) (q .smaller);
+          }
+      go (no l) (no m) =
+          let t : c ≡ d = omega (arith, l, m) in
+          record {
+            offset = d;
+            agree = agree-trans y i j k d (agree-less y i j c d (p .agree) (omega arith)) (q .agree);
+            smaller =
+                smaller-trans O (y (i + d)) (y (j + d)) (y (k + d)) (subst (λ (z : ℕ). Smaller O (y (i + z)) (y (j + z))) t (p .smaller))
+                (q .smaller);
+          }
+
+  from-asym : (i j : ℕ) → BelowFrom O y i j → ¬ BelowFrom O y j i
+  from-asym i j p q = from-irrefl i (from-trans i j i p q)
+
+  -- Where all letters agree with those from k on, k may stand for j.
+  from-right : (i j k : ℕ) → ((t : ℕ) → y (j + t) ≡ y (k + t)) → BelowFrom O y i j → BelowFrom O y i k
+  from-right i j k g w =
+      record {
+        offset = w .offset;
+        agree = λ t l. w .agree t l ∙ g t;
+        smaller = subst (λ (z : A). Smaller O (y (i + w .offset)) z) (g (w .offset)) (w .smaller);
+      }
+
+  -- A common part may be taken away.
+  from-cancel : (i j m : ℕ) (w : BelowFrom O y i j) → m ≤ w .offset → BelowFrom O y (i + m) (j + m)
+  from-cancel i j m w l =
+      let d : ℕ = w .offset in
+      let a : i + d ≡ i + m + (d - m) = omega arith in
+      let b : j + d ≡ j + m + (d - m) = omega arith in
+      record {
+        offset = d - m;
+        agree = agree-shift y i j d m (w .agree) (d - m) (omega arith);
+        smaller =
+            subst (λ (z : ℕ). Smaller O (y (i + m + (d - m))) (y z)) b
+            (subst (λ (z : ℕ). Smaller O (y z) (y (j + d))) a (w .smaller));
+      }
+
+-- Two places of a sequence without end are compared on m letters: below, above, or the same.
+pub data ComparedOn {A : Type 0} (O : Letters A) (y : ℕ → A) (i j m : ℕ) : Type 0 where
+  is-below : BelowFrom O y i j → ComparedOn O y i j m
+  is-above : BelowFrom O y j i → ComparedOn O y i j m
+  is-same : Agree y i j m → ComparedOn O y i j m
+
+module _ {A : Type 0} (O : Letters A) (y : ℕ → A) (compared : (i j : ℕ) → Compared O (y i) (y j)) where
+  compare-on : (i j m : ℕ) → ComparedOn O y i j m
+  compare-on i j zero = is-same (λ k l. absurd (omega arith))
+  compare-on i j (suc m) = go (compare-on i j m)
+    where
+      letter : Agree y i j m → (c : Comparison) → Means O c (y (i + m)) (y (j + m)) → ComparedOn O y i j (suc m)
+      letter g below s = is-below (record { offset = m; agree = g; smaller = s })
+      letter g above s = is-above (record { offset = m; agree = agree-sym y i j m g; smaller = s })
+      letter g same s = is-same (λ k l. at k l (decLt k m))
+        where
+          at : (k : ℕ) → k < suc m → Dec (k < m) → y (i + k) ≡ y (j + k)
+          at k l (yes r) = g k r
+          at k l (no r) = let t : m ≡ k = omega (arith, r) in subst (λ (z : ℕ). y (i + z) ≡ y (j + z)) t s
+
+      go : ComparedOn O y i j m → ComparedOn O y i j (suc m)
+      go (is-below w) = is-below w
+      go (is-above w) = is-above w
+      go (is-same g) = let c = compared (i + m) (j + m) in letter g (c .0) (c .1)
+
+-- The sequence repeats every p letters, and after no smaller distance.
+pub record Primitive {A : Type 0} (y : ℕ → A) (p : ℕ) : Type 0 where
+  pub positive : 0 < p
+  pub repeats : (t : ℕ) → y t ≡ y (t + p)
+  pub no-sooner : (d : ℕ) → 0 < d → d < p → ¬ ((t : ℕ) → y t ≡ y (t + d))
+
+-- The rotation at k is below the rotations at all other numbers below m.
+pub record LeastRotation {A : Type 0} (O : Letters A) (y : ℕ → A) (m k : ℕ) : Type 0 where
+  pub early : k < m
+  pub least : (j : ℕ) → j < m → ¬ (j ≡ k) → BelowFrom O y k j
+
+module _ {A : Type 0} (y : ℕ → A) (p : ℕ) (w : Primitive y p) where
+  -- What agrees over a period agrees everywhere.
+  agree-on : (i j : ℕ) → Agree y i j p → (fuel t : ℕ) → t < fuel → y (i + t) ≡ y (j + t)
+  agree-on i j g zero t l = absurd (omega arith)
+  agree-on i j g (suc fuel) t l = go (decLt t p) (λ h. agree-on i j g fuel (t - p) h)
+    where
+      go : Dec (t < p) → (t - p < fuel → y (i + (t - p)) ≡ y (j + (t - p))) → y (i + t) ≡ y (j + t)
+      go (yes h) rest = g t h
+      go (no h) rest =
+          let q : 0 < p = w .positive in
+          let a : i + (t - p) + p ≡ i + t = omega (arith, h) in
+          let b : j + (t - p) + p ≡ j + t = omega (arith, h) in
+          sym (ap y a) ∙ sym (w .repeats (i + (t - p))) ∙ rest (omega (arith, h)) ∙ w .repeats (j + (t - p)) ∙ ap y b
+
+  -- Two places closer than p do not agree over a period.
+  rotations-differ : (i d : ℕ) → i < p → 0 < d → d < p → ¬ Agree y i (i + d) p
+  rotations-differ i d l a b g = w .no-sooner d a b every
+    where
+      from : (u : ℕ) → i ≤ u → y u ≡ y (u + d)
+      from u h =
+          let e : i + (u - i) ≡ u = omega arith in
+          let f : i + d + (u - i) ≡ u + d = omega arith in
+          sym (ap y e) ∙ agree-on i (i + d) g (suc (u - i)) (u - i) (omega arith) ∙ ap y f
+
+      every : (t : ℕ) → y t ≡ y (t + d)
+      every t =
+          let e : t + p + d ≡ t + d + p = omega arith in
+          w .repeats t ∙ from (t + p) (omega arith) ∙ ap y e ∙ sym (w .repeats (t + d))
+
+module _ {A : Type 0} (O : Letters A) (y : ℕ → A) (p : ℕ) (w : Primitive y p) (compared : (i j : ℕ) → Compared O (y i) (y j)) where
+  rotation-compare : (i j : ℕ) → i < j → j < p → BelowFrom O y i j ⊎ BelowFrom O y j i
+  rotation-compare i j l h = go (compare-on O y compared i j p)
+    where
+      go : ComparedOn O y i j p → BelowFrom O y i j ⊎ BelowFrom O y j i
+      go (is-below v) = inl v
+      go (is-above v) = inr v
+      go (is-same g) =
+          let e : j ≡ i + (j - i) = omega arith in
+          absurd (rotations-differ y p w i (j - i) (omega arith) (omega arith) (omega arith) (subst (λ (k : ℕ). Agree y i k p) e g))
+
+  least-rotation : (m : ℕ) → suc m ≤ p → (k : ℕ) × LeastRotation O y (suc m) k
+  least-rotation zero h = (0, record { early = omega arith; least = λ j l n. absurd (n (omega arith)) })
+  least-rotation (suc m) h = go (least-rotation m (omega arith))
+    where
+      go : (k : ℕ) × LeastRotation O y (suc m) k → (k : ℕ) × LeastRotation O y (suc (suc m)) k
+      go (k, v) = pick (rotation-compare k (suc m) (v .early) h)
+        where
+          pick : BelowFrom O y k (suc m) ⊎ BelowFrom O y (suc m) k → (k : ℕ) × LeastRotation O y (suc (suc m)) k
+          pick (inl b) = (k, record { early = omega (arith, v .early); least = λ j l n. at j l n (decLt j (suc m)) })
+            where
+              at : (j : ℕ) → j < suc (suc m) → ¬ (j ≡ k) → Dec (j < suc m) → BelowFrom O y k j
+              at j l n (yes r) = v .least j r n
+              at j l n (no r) = let t : suc m ≡ j = omega (arith, r) in subst (λ (z : ℕ). BelowFrom O y k z) t b
+          pick (inr b) = (suc m, record { early = omega arith; least = λ j l n. at j (omega (arith, n)) (ℕ-discrete j k) })
+            where
+              at : (j : ℕ) → j < suc m → Dec (j ≡ k) → BelowFrom O y (suc m) j
+              at j l (yes e) = subst (λ (z : ℕ). BelowFrom O y (suc m) z) (sym e) b
+              at j l (no e) = from-trans O y (suc m) k j b (v .least j l e)
+
+  -- The least rotation is below all others within a period after it.
+  least-below : (k : ℕ) → LeastRotation O y p k → (t : ℕ) → k < t → t < k + p → BelowFrom O y k t
+  least-below k v t a b = go (decLt t p)
+    where
+      go : Dec (t < p) → BelowFrom O y k t
+      go (yes l) = v .least t l (λ e. omega arith)
+      go (no l) =
+          let c : k < p = v .early in
+          from-right O y k (t - p) t
+          (λ u.
+          let e : t - p + u + p ≡ t + u = omega (arith, l) in
+          w .repeats (t - p + u) ∙ ap y e)
+          (v .least (t - p) (omega (arith, l)) (λ e. omega (arith, l)))
+
+  -- The least rotation is a Lyndon word.
+  least-lyndon : (k : ℕ) → LeastRotation O y p k → SpanLyndon O y k (k + p)
+  least-lyndon k v = record { non-empty = omega (arith, w .positive); below = λ t a b. within t a b (least-below k v t a b) }
+    where
+      within : (t : ℕ) → k < t → t < k + p → BelowFrom O y k t → BelowWithin O y k t (k + p)
+      within t a b r = go (decLt (t + r .offset) (k + p))
+        where
+          go : Dec (t + r .offset < k + p) → BelowWithin O y k t (k + p)
+          go (yes l) = record { offset = r .offset; inside = l; agree = r .agree; smaller = r .smaller }
+          go (no l) =
+              let m : ℕ = k + p - t in
+              let c : BelowFrom O y (k + m) (t + m) = from-cancel O y k t m r (omega (arith, l)) in
+              let d : BelowFrom O y (k + m) k =
+              from-right O y (k + m) (t + m) k
+              (λ u.
+              let e : t + m + u ≡ k + u + p = omega arith in
+              ap y e ∙ sym (w .repeats (k + u)))
+              c in
+              absurd (from-asym O y k (k + m) (least-below k v (k + m) (omega arith) (omega arith)) d)
+
+-- Where p letters from i in x and from j in y on are the same, they are a Lyndon word in both or in none.
+pub lyndon-carried : {A : Type 0} (O : Letters A) (x y : ℕ → A) (i j p : ℕ) → ((u : ℕ) → u < p → x (i + u) ≡ y (j + u)) →
+    SpanLyndon O x i (i + p) → SpanLyndon O y j (j + p)
+lyndon-carried {A} O x y i j p g v =
+    record { non-empty = omega (arith, v .non-empty); below = λ k a b. within k a b (v .below (i + (k - j)) (omega arith) (omega arith)) }
+  where
+    within : (k : ℕ) → j < k → k < j + p → BelowWithin O x i (i + (k - j)) (i + p) → BelowWithin O y j k (j + p)
+    within k a b w =
+        record {
+          offset = w .offset;
+          inside = omega (arith, w .inside);
+          agree = λ u l. sym (g u (omega (arith, w .inside))) ∙ w .agree u l ∙ later u (omega (arith, w .inside));
+          smaller =
+              subst (λ (c : A). Smaller O c (y (k + w .offset))) (g (w .offset) (omega (arith, w .inside)))
+              (subst (λ (c : A). Smaller O (x (i + w .offset)) c) (later (w .offset) (w .inside)) (w .smaller));
+        }
+      where
+        later : (u : ℕ) → i + (k - j) + u < i + p → x (i + (k - j) + u) ≡ y (k + u)
+        later u l =
+            let c : i + (k - j) + u ≡ i + ((k - j) + u) = omega arith in
+            let d : j + ((k - j) + u) ≡ k + u = omega arith in
+            ap x c ∙ g ((k - j) + u) (omega arith) ∙ ap y d
+
+-- The Lyndon word of period p that starts last in a run from s to e.
+pub record LastRoot {A : Type 0} (O : Letters A) (x : ℕ → A) (s e p i : ℕ) : Type 0 where
+  pub low : s ≤ i
+  pub high : i + p ≤ e
+  pub last : e < i + (p + p)
+  pub lyndon : SpanLyndon O x i (i + p)
+
+module _ {A : Type 0} (O : Letters A) (x : ℕ → A) (n s e p : ℕ) (compared : AllCompared O x n) (r : SpanRun x n s e p) where
+  -- The first p letters of the run, repeated without end.
+  abbrev turning : ℕ → A
+  turning t = x (s + t % p)
+
+  turning-repeats : (t : ℕ) → turning t ≡ turning (t + p)
+  turning-repeats t = ap (λ (u : ℕ). x (s + u)) (sym (add-mod-right t p))
+
+  turning-is : (fuel t : ℕ) → t < fuel → s + t < e → x (s + t) ≡ turning t
+  turning-is zero t l h = absurd (omega arith)
+  turning-is (suc fuel) t l h = go (decLt t p) (λ a b. turning-is fuel (t - p) a b)
+    where
+      go : Dec (t < p) → (t - p < fuel → s + (t - p) < e → x (s + (t - p)) ≡ turning (t - p)) → x (s + t) ≡ turning t
+      go (yes a) rest = ap (λ (u : ℕ). x (s + u)) (sym (mod-eq-of-lt a))
+      go (no a) rest =
+          let q : 0 < p = r .positive in
+          let b : s + (t - p) + p ≡ s + t = omega (arith, a) in
+          let c : t - p + p ≡ t = omega (arith, a) in
+          sym (ap x b) ∙ sym (r .period (s + (t - p)) (omega arith) (omega (arith, a))) ∙
+          rest (omega (arith, a)) (omega (arith, a)) ∙ turning-repeats (t - p) ∙ ap turning c
+
+  turning-at : (t : ℕ) → s + t < e → x (s + t) ≡ turning t
+  turning-at t h = turning-is (suc t) t (omega arith) h
+
+  turning-primitive : Primitive turning p
+  turning-primitive = record { positive = r .positive; repeats = turning-repeats; no-sooner = sooner }
+    where
+      sooner : (d : ℕ) → 0 < d → d < p → ¬ ((t : ℕ) → turning t ≡ turning (t + d))
+      sooner d a b h =
+          r .smallest d a b
+          (λ t f g.
+          let u : ℕ = t - s in
+          let k : s + u ≡ t = omega arith in
+          let m : s + (u + d) ≡ t + d = omega arith in
+          sym (ap x k) ∙ turning-at u (omega arith) ∙ h u ∙ sym (turning-at (u + d) (omega arith)) ∙ ap x m)
+
+  turning-compared : (i j : ℕ) → Compared O (turning i) (turning j)
+  turning-compared i j =
+      compared (s + i % p) (s + j % p) (omega (arith, mod-lt i {m = p} (r .positive), r .twice, r .inside))
+      (omega (arith, mod-lt j {m = p} (r .positive), r .twice, r .inside))
+
+  -- A Lyndon word of the repeated letters that lies in the run is one of the text.
+  turning-lyndon : (k : ℕ) → s + k + p ≤ e → SpanLyndon O turning k (k + p) → SpanLyndon O x (s + k) (s + k + p)
+  turning-lyndon k h =
+      lyndon-carried O turning x k (s + k) p
+      (λ u l.
+      let c : s + (k + u) ≡ s + k + u = omega arith in
+      sym (turning-at (k + u) (omega arith)) ∙ ap x c)
+
+  -- A Lyndon word of the repeated letters stands again p letters on.
+  turning-again : (k : ℕ) → SpanLyndon O turning k (k + p) → SpanLyndon O turning (k + p) (k + p + p)
+  turning-again k =
+      lyndon-carried O turning turning k (k + p) p
+      (λ u l.
+      let c : k + u + p ≡ k + p + u = omega arith in
+      turning-repeats (k + u) ∙ ap turning c)
+
+  -- Of the places of a Lyndon word of the repeated letters in the run, the last one.
+  last-from : (fuel k : ℕ) → e < fuel + (s + k + p) → s + k + p ≤ e → SpanLyndon O turning k (k + p) → (i : ℕ) × LastRoot O x s e p i
+  last-from zero k f h v = absurd (omega arith)
+  last-from (suc fuel) k f h v = go (decLt e (s + k + (p + p))) (λ f′ h′. last-from fuel (k + p) f′ h′ (turning-again k v))
+    where
+      go : Dec (e < s + k + (p + p)) → (e < fuel + (s + (k + p) + p) → s + (k + p) + p ≤ e → (i : ℕ) × LastRoot O x s e p i) → (i : ℕ) × LastRoot O x s e p i
+      go (yes l) rest = (s + k, record { low = omega arith; high = h; last = l; lyndon = turning-lyndon k h v })
+      go (no l) rest = rest (omega (arith, r .positive)) (omega (arith, l))
+
+  -- Every run has a Lyndon word of its period, and so a last one.
+  pub last-root : (i : ℕ) × LastRoot O x s e p i
+  last-root = go (least-rotation O turning p turning-primitive turning-compared (p - 1) (omega (arith, r .positive)))
+    where
+      go : (k : ℕ) × LeastRotation O turning (suc (p - 1)) k → (i : ℕ) × LastRoot O x s e p i
+      go (k, v) =
+          let c : suc (p - 1) ≡ p = omega (arith, r .positive) in
+          let u : LeastRotation O turning p k = subst (λ (m : ℕ). LeastRotation O turning m k) c v in
+          last-from e k (omega (arith, r .positive)) (omega (arith, u .early, r .twice))
+          (least-lyndon O turning p turning-primitive turning-compared k u)
