@@ -45,8 +45,10 @@ fn join(text: &[u32], order: u32, buf: &mut [u32], i: usize) -> Joined
             if l <= k {
                 if d == l {
                     break Comparison::Same;
+                } else {
+                    // The factor is a proper prefix of the word.
+                    break Comparison::Above;
                 }
-                break Comparison::Above;
             }
             let a = text[i + k];
             let b = text[j + k];

@@ -1,0 +1,13 @@
+/* Texts that the benchmark runs on. */
+#ifndef FAMILIES_H
+#define FAMILIES_H
+#include <stddef.h>
+#include <stdint.h>
+
+/* Fills text with n letters of family f; the same letters every time. */
+void family_fill(int f, uint8_t *text, size_t n);
+const char *family_name(int f);
+int family_count(void);
+/* 1 for families as they occur in nature, 0 for hard ones made by hand. */
+int family_natural(int f);
+#endif

@@ -1,0 +1,9 @@
+-- An answer as C has it.
+-- Assumes nothing.
+use Rattle.answer.specs.declared.Answer.{Answer}
+use Rattle.answer.specs.Answers.{number, value}
+use Rattle.lyndon_c.specs.declared.LyndonAnswer.{LyndonAnswer}
+
+-- The answer's number and value.
+abbrev pub recordOf : Answer → LyndonAnswer
+recordOf a = record { number = number a; value = value a }

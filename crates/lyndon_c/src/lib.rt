@@ -1,0 +1,45 @@
+// The calls of the library, exported to C under the names of include/lyndon.h. Each hands on the library's answer and buffers unchanged.
+// A slice is a pointer and a length in C; that pointers are valid for their lengths, and that a buffer which is written overlaps no other
+// buffer of the call, is the C caller's part.
+use answer::Answer;
+ghost use mathlib.Core.Path.{_≡_};
+ghost use lib.ListN.{length};
+ghost use Rattle.lyndon_c.specs.Record.{recordOf};
+ghost use Rattle.answer.specs.Checks.{contentAfter};
+ghost use Rattle.array.specs.Calls.{arrayAnswer};
+ghost use Rattle.words.specs.Letters.{decided-order};
+ghost use Rattle.words.specs.Compute.LyndonArray.{arrayOf};
+
+// An answer as C has it: number 0 and the count, or the refusal's number and the position.
+#[repr(C)]
+pub struct LyndonAnswer {
+    pub number: u32,
+    pub value: u32,
+}
+
+fn exported(a: Answer) -> LyndonAnswer
+    ensures { λ r. ⌜ r ≡ recordOf a ⌝ }
+{
+    LyndonAnswer {
+        number: answer::number(a),
+        value: answer::value(a),
+    }
+}
+
+// The Lyndon array of a text of bytes.
+#[no_mangle]
+pub extern "C" fn lyndon_array_u8(text: &[u8], order: u32, out: &mut [u32]) -> LyndonAnswer
+    ensures answer { λ r. ⌜ r ≡ recordOf (arrayAnswer (length (now (text .entry))) order (length (now (out .entry)))) ⌝ }
+    ensures content { λ r. ⌜ now (out .exit) ≡ contentAfter (arrayAnswer (length (now (text .entry))) order (length (now (out .entry)))) (arrayOf (decided-order order) (now (text .entry))) (now (out .entry)) ⌝ }
+{
+    exported(array::bytes::lyndon_array(text, order, out))
+}
+
+// The Lyndon array of a text of 32-bit letters.
+#[no_mangle]
+pub extern "C" fn lyndon_array_u32(text: &[u32], order: u32, out: &mut [u32]) -> LyndonAnswer
+    ensures answer { λ r. ⌜ r ≡ recordOf (arrayAnswer (length (now (text .entry))) order (length (now (out .entry)))) ⌝ }
+    ensures content { λ r. ⌜ now (out .exit) ≡ contentAfter (arrayAnswer (length (now (text .entry))) order (length (now (out .entry)))) (arrayOf (decided-order order) (now (text .entry))) (now (out .entry)) ⌝ }
+{
+    exported(array::numbers::lyndon_array(text, order, out))
+}
