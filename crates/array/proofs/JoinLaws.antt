@@ -47,14 +47,6 @@ known-remembered order x buf j l r = go (decLt 1 (entryOf order x j))
 pub entry-own : (order : ℕ) (x buf : List ℕ) (j : ℕ) → j < length x → RowsOf order x buf j → getD buf j 0 ≡ entryOf order x j
 entry-own order x buf j l r = front (letters 0 x) (length x) (entryOf order x) (letters 0 buf) j l r .own
 
--- One letter more agrees.
-pub agree-more : (x : List ℕ) (i j k : ℕ) → Agreeing x i j k → getD x (i + k) 0 ≡ getD x (j + k) 0 → Agreeing x i j (k + 1)
-agree-more x i j k g e = record { agree = λ t h. at t h (decLt t k) }
-  where
-    at : (t : ℕ) → t < k + 1 → Dec (t < k) → letters 0 x (i + t) ≡ letters 0 x (j + t)
-    at t h (yes q) = g .agree t q
-    at t h (no q) = let z : k ≡ t = omega (arith, q) in subst (λ (u : ℕ). letters 0 x (i + u) ≡ letters 0 x (j + u)) z e
-
 -- The factor at j lies inside the buffer.
 pub factor-fits : (order : ℕ) (x before buf : List ℕ) (i j k g l : ℕ) → JoinLoop order x before buf i j k g → j < length x → length x ≤ length before →
     l ≡ getD buf j 0 → j + l ≤ length buf
@@ -120,23 +112,23 @@ module _ (order : ℕ) (x before buf : List ℕ) (i j k₀ g₀ l s : ℕ) (w : 
 
   -- The factor ended without a difference, and is as long as the word.
   pub ended-same : Agreeing x i j k → l ≤ k → j - i ≡ l → Compared order x i j k Same
-  ended-same g h e = (g .agree, prefix-next h g, (w .inside, (omega (arith, w .after, w .is-length), reached h g)))
+  ended-same g h e = (g, prefix-next h g, (w .inside, (omega (arith, w .after, w .is-length), reached h g)))
 
   -- The factor ended without a difference, and is shorter than the word.
   pub ended-above : Agreeing x i j k → l ≤ k → ¬ (j - i ≡ l) → Compared order x i j k Above
   ended-above g h e =
-      (g .agree, prefix-next h g, λ q. (λ z. e (omega (arith, z .0, w .after, w .is-length)), λ q′. absurd (omega (arith, w .is-length))))
+      (g, prefix-next h g, λ q. (λ z. e (omega (arith, z .0, w .after, w .is-length)), λ q′. absurd (omega (arith, w .is-length))))
 
   -- A difference past the end of the word: the word is a proper prefix of the factor.
   pub past-below : Agreeing x i j k → k < l → j - i ≤ k → Compared order x i j k Below
   past-below g h q =
-      (g .agree, shorter (j - i) (omega (arith, w .after)) (omega (arith, w .is-length)) (agree-less (letters 0 x) i j k (j - i) (g .agree) q))
+      (g, shorter (j - i) (omega (arith, w .after)) (omega (arith, w .is-length)) (agree-less (letters 0 x) i j k (j - i) (g .agree) q))
 
   -- A difference inside both, the word's letter the smaller one.
   pub letter-below : Agreeing x i j k → k < l → k < j - i → ¬ (getD x (i + k) 0 ≡ getD x (j + k) 0) →
       smallerIn order (getD x (i + k) 0) (getD x (j + k) 0) ≡ true → Compared order x i j k Below
   letter-below g h q d e = (
-    g .agree,
+    g,
     differs k (omega arith) (omega (arith, w .is-length)) (g .agree) (smallerIn-below order (getD x (i + k) 0) (getD x (j + k) 0) d e),
   )
 
@@ -144,7 +136,7 @@ module _ (order : ℕ) (x before buf : List ℕ) (i j k₀ g₀ l s : ℕ) (w : 
   pub letter-above : Agreeing x i j k → k < l → k < j - i → ¬ (getD x (i + k) 0 ≡ getD x (j + k) 0) →
       smallerIn order (getD x (i + k) 0) (getD x (j + k) 0) ≡ false → Compared order x i j k Above
   letter-above g h q d e = (
-    g .agree,
+    g,
     leave-letter (orderOf order) (letters 0 x) (length x) (entryOf order x) (entry-next order x) i j k lyndon (omega (arith, w .ends)) (g .agree)
         (smallerIn-above order (getD x (i + k) 0) (getD x (j + k) 0) d e),
     λ q′. (λ z. d (z .1 k (omega (arith, w .is-length))), λ q″. d),
@@ -152,7 +144,7 @@ module _ (order : ℕ) (x before buf : List ℕ) (i j k₀ g₀ l s : ℕ) (w : 
 
   -- The word has ended without a difference, and is shorter than the factor.
   pub word-below : Agreeing x i j k → k ≡ j - i → j - i < l → Compared order x i j k Below
-  word-below g e h = (g .agree, shorter k (omega (arith, w .after)) (omega (arith, w .is-length)) (g .agree))
+  word-below g e h = (g, shorter k (omega (arith, w .after)) (omega (arith, w .is-length)) (g .agree))
 
   -- The same, and what is remembered of the factor tells how far they agree.
   pub leap-below : Agreeing x i j k → k ≡ j - i → j - i < l → j - i ≤ s → j - i + getD buf (j + (j - i)) 0 ≡ l →
@@ -161,7 +153,15 @@ module _ (order : ℕ) (x before buf : List ℕ) (i j k₀ g₀ l s : ℕ) (w : 
       let r =
       shortcut (orderOf order) (letters 0 x) (length x) (entryOf order x) (entry-next order x) (letters 0 buf) i j (j - i) s lyndon (w .inside)
       (omega (arith, w .after)) (agree-less (letters 0 x) i j k (j - i) (g .agree) (omega arith)) (w .known) q (m ∙ w .is-length) in
-      (r .0, word-below g e h .1)
+      (record { agree = r .0; within = omega (arith, w .ends, w .is-length, r .1) }, word-below g e h .1)
+
+  -- One letter more agrees.
+  pub agree-more : Agreeing x i j k → k < l → getD x (i + k) 0 ≡ getD x (j + k) 0 → Agreeing x i j (k + 1)
+  agree-more g h e = record { agree = λ t q. at t q (decLt t k); within = omega (arith, w .ends) }
+    where
+      at : (t : ℕ) → t < k + 1 → Dec (t < k) → letters 0 x (i + t) ≡ letters 0 x (j + t)
+      at t q (yes p) = g .agree t p
+      at t q (no p) = let z : k ≡ t = omega (arith, p) in subst (λ (u : ℕ). letters 0 x (i + u) ≡ letters 0 x (j + u)) z e
 
 -- Changes of the buffer.
 pub restored-kept : (buf : List ℕ) (j l t : ℕ) → ¬ (suc t ≡ j + l) → getD (restoredAt buf j l) t 0 ≡ getD buf t 0
@@ -202,7 +202,7 @@ join-step order x before buf i j k₀ g₀ l s w k k′ c a b =
           };
       joining =
           joining-step (orderOf order) (letters 0 x) (length x) (entryOf order x) (entry-next order x) (letters 0 buf) (letters 0 (restoredAt buf j m)) i j k₀ g₀ k s k′
-          (w .loop .joining) (w .inside) (w .known) (c .0) (c .1) a b (λ t p h. restored-kept buf j m t h)
+          (w .loop .joining) (w .inside) (w .known) (c .0 .agree) (c .1) a b (λ t p h. restored-kept buf j m t h)
           (λ t e.
           restored-one buf j m t (omega (arith, nj .inside, w .fits))
           (λ q.
@@ -236,7 +236,7 @@ joined-same order x before buf i j k₀ g₀ l s w k c =
       changed = w .loop .changed;
       joining =
           joining-agreed (orderOf order) (letters 0 x) (length x) (entryOf order x) (entry-next order x) (letters 0 buf) i j k₀ k g₀ (w .loop .joining)
-          (λ q. c .0);
+          (λ q. c .0 .agree) (λ q. c .0 .within);
       next = c .1;
       stopped = c .2;
     }
@@ -248,7 +248,7 @@ joined-above order x before buf i j k₀ g₀ l s w k c =
       changed = w .loop .changed;
       joining =
           joining-agreed (orderOf order) (letters 0 x) (length x) (entryOf order x) (entry-next order x) (letters 0 buf) i j k₀ k g₀ (w .loop .joining)
-          (λ q. c .0);
+          (λ q. c .0 .agree) (λ q. c .0 .within);
       next = c .1;
       stopped = c .2;
     }

@@ -1,9 +1,13 @@
-// The Lyndon array of a text of bytes (`bytes`) or of 32-bit letters (`numbers`), in either order.
+// The Lyndon array of a text of bytes (`bytes`) or of 32-bit letters (`numbers`), in either order, and the list of all runs of a text of
+// bytes (`runs`).
 //
-// Both are made by the join loop of document 002 (LONGESTLYNDON) from the last position to the first; while it runs, the last place of
-// a factor remembers how far the factor agrees with what follows, so that no text makes it slow. Contracts cite `specs/Calls.antt` and
-// the definitions of the crate `words`. Nothing is assumed.
+// The arrays are made by the join loop of document 002 (LONGESTLYNDON) from the last position to the first; while it runs, the last place
+// of a factor remembers how far the factor agrees with what follows, so that no text makes it slow. The runs are found in the same loop,
+// once in each order (document 002, RUNS), each at its rightmost root. Contracts cite `specs/Calls.antt` and the definitions of the crate
+// `words`. Nothing is assumed.
 pub mod bytes;
-mod joined;
 pub mod numbers;
+pub mod runs;
+mod agreement;
 mod places;
+mod joined;

@@ -28,7 +28,7 @@ fn smaller(a: u32, b: u32, order: u32) -> bool
 }
 
 // Joins to the letter at i the factors after it, as long as the word so far is smaller than the next factor.
-fn join(text: &[u32], order: u32, buf: &mut [u32], i: usize) -> Joined
+pub(crate) fn join(text: &[u32], order: u32, buf: &mut [u32], i: usize) -> Joined
     requires { ⌜ (i < length (now text)) × (length (now text) ≤ length (now buf)) × (length (now text) ≤ 1048576) × RowsOf order (now text) (now buf) (i + 1) ⌝ }
     ensures { λ r. ⌜ JoinedTo order (now (text .entry)) (now (buf .entry)) (now (buf .exit)) i r ⌝ }
 {

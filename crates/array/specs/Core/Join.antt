@@ -43,15 +43,16 @@ pub record JoinLoop (order : ℕ) (x before buf : List ℕ) (i j k g : ℕ) : Ty
   pub changed : ChangedAfter before buf i (length x)
   pub joining : Joining (orderOf order) (letters 0 x) (length x) (entryOf order x) (letters 0 buf) i j k g
 
--- The letters from i and from j on agree on k letters.
+-- The suffixes at i and at j agree on k letters.
 pub record Agreeing (x : List ℕ) (i j k : ℕ) : Type 0 where
   pub agree : Agree (letters 0 x) i j k
+  pub within : j + k ≤ length x
 
 -- What the comparison of the word from i to j with the factor at j says, and how far they agree.
 abbrev pub Compared : ℕ → List ℕ → ℕ → ℕ → ℕ → Comparison → Type 0
 Compared order x i j k Below =
-    Agree (letters 0 x) i j k × SpanLess (orderOf order) (letters 0 x) i j j (j + entryOf order x j)
+    Agreeing x i j k × SpanLess (orderOf order) (letters 0 x) i j j (j + entryOf order x j)
 Compared order x i j k Same =
-    Agree (letters 0 x) i j k × NextSmaller (orderOf order) (letters 0 x) (length x) i j × Stopped order x i j k Same
+    Agreeing x i j k × NextSmaller (orderOf order) (letters 0 x) (length x) i j × Stopped order x i j k Same
 Compared order x i j k Above =
-    Agree (letters 0 x) i j k × NextSmaller (orderOf order) (letters 0 x) (length x) i j × Stopped order x i j k Above
+    Agreeing x i j k × NextSmaller (orderOf order) (letters 0 x) (length x) i j × Stopped order x i j k Above

@@ -22,6 +22,7 @@ pub record Remembered {A : Type 0} (x : ℕ → A) (n : ℕ) (lam buf : ℕ → 
   pub last : ℕ
   pub last-is : suc last ≡ c + lam c
   pub next-agree : c + lam c < n → Agree x c (c + lam c) (buf last)
+  pub next-within : c + lam c < n → c + lam c + buf last ≤ n
   pub part : ℕ
   pub part-after : c < part
   pub part-before : part < c + lam c
@@ -44,6 +45,7 @@ pub record Front {A : Type 0} (x : ℕ → A) (n : ℕ) (lam buf : ℕ → ℕ) 
 -- The number s that is known of the factor at j.
 pub record Known {A : Type 0} (x : ℕ → A) (n : ℕ) (lam buf : ℕ → ℕ) (j s : ℕ) : Type 0 where
   pub agree : j + lam j < n → Agree x j (j + lam j) s
+  pub within : j + lam j < n → j + lam j + s ≤ n
   pub short : s < lam j
   pub inner : (d : ℕ) → 0 < d → d ≤ s → buf (j + d) ≡ lam (j + d)
   pub part-agree : (d : ℕ) → 0 < d → d ≤ s → d + lam (j + d) ≡ lam j → ((t : ℕ) → j < t → t < j + d → ¬ Agree x j t d) → Agree x j (j + d) s
@@ -71,6 +73,7 @@ pub record Joining {A : Type 0} (O : Letters A) (x : ℕ → A) (n : ℕ) (lam b
   pub inner : (t : ℕ) → i < t → t < j → buf t ≡ lam t
   pub rows : Rows x n lam buf j
   pub agree : j < n → Agree x i j k
+  pub within : j < n → j + k ≤ n
   pub joined : (j ≡ suc i) ⊎ LastPart x lam i j g
 
 module _ {A : Type 0} (x : ℕ → A) (n : ℕ) (lam : ℕ → ℕ) where
@@ -87,6 +90,7 @@ module _ {A : Type 0} (x : ℕ → A) (n : ℕ) (lam : ℕ → ℕ) where
         last = m .last;
         last-is = m .last-is;
         next-agree = λ l. subst (λ (d : ℕ). Agree x c (c + lam c) d) (sym e) (m .next-agree l);
+        next-within = λ l. omega (arith, e, m .next-within l);
         part = m .part;
         part-after = m .part-after;
         part-before = m .part-before;
@@ -130,6 +134,7 @@ module _ {A : Type 0} (O : Letters A) (x : ℕ → A) (n : ℕ) (lam : ℕ → �
   known-letter buf j l e =
       record {
         agree = λ h k m. absurd (omega arith);
+        within = λ h. omega arith;
         short = omega arith;
         inner = λ d p q. absurd (omega arith);
         part-agree = λ d p q. absurd (omega arith);
@@ -142,6 +147,7 @@ module _ {A : Type 0} (O : Letters A) (x : ℕ → A) (n : ℕ) (lam : ℕ → �
       (m .part-before) (m .part-agree) in
       record {
         agree = m .next-agree;
+        within = m .next-within;
         short = omega (arith, m .part-after);
         inner = λ d p q. m .inner (j + d) (omega arith) (omega (arith, m .part-after));
         part-agree = λ d p q e h. subst (λ (t : ℕ). Agree x j t (buf (m .last))) (same d p q e h) (m .part-agree);
@@ -195,12 +201,13 @@ module _ {A : Type 0} (O : Letters A) (x : ℕ → A) (n : ℕ) (lam : ℕ → �
         inner = λ t p q. absurd (omega arith);
         rows = r;
         agree = λ m k h. absurd (omega arith);
+        within = λ m. omega arith;
         joined = inl refl;
       }
 
   -- The same, once more letters are known to agree.
-  pub joining-agreed : (buf : ℕ → ℕ) (i j k₀ k g : ℕ) → Joining O x n lam buf i j k₀ g → (j < n → Agree x i j k) → Joining O x n lam buf i j k g
-  joining-agreed buf i j k₀ k g w a =
+  pub joining-agreed : (buf : ℕ → ℕ) (i j k₀ k g : ℕ) → Joining O x n lam buf i j k₀ g → (j < n → Agree x i j k) → (j < n → j + k ≤ n) → Joining O x n lam buf i j k g
+  joining-agreed buf i j k₀ k g w a b =
       record {
         lyndon = w .lyndon;
         inside = w .inside;
@@ -208,6 +215,7 @@ module _ {A : Type 0} (O : Letters A) (x : ℕ → A) (n : ℕ) (lam : ℕ → �
         inner = w .inner;
         rows = w .rows;
         agree = a;
+        within = b;
         joined = w .joined;
       }
 
@@ -222,6 +230,7 @@ module _ {A : Type 0} (O : Letters A) (x : ℕ → A) (n : ℕ) (lam : ℕ → �
         covered = λ t p q. reach t p q (decLt t j) (decLt j t);
         inner = λ t p q. entry t p q (decLt t j);
         rows = rows-same x n lam buf buf′ (j + lam j) (λ t p q. kept t q (λ e. omega arith)) (fr .rest);
+        within = λ m. omega (arith, known .within m);
         agree =
             λ m. agree-trans x i j (j + lam j) k′ (agree-less x i j k k′ g a) (agree-less x j (j + lam j) s k′ (known .agree m) b);
         joined =
@@ -352,6 +361,7 @@ module _ {A : Type 0} (O : Letters A) (x : ℕ → A) (n : ℕ) (lam : ℕ → �
                     λ l.
                     subst (λ (z : ℕ). Agree x i z (buf′ (j - 1))) (sym is)
                     (subst (λ (z : ℕ). Agree x i j z) (sym at-last) (agree-less x i j k s (w .agree (omega (arith, is))) a));
+                next-within = λ l. omega (arith, is, at-last, w .within (omega (arith, is)));
                 part = p .part;
                 part-after = p .after;
                 part-before = omega (arith, is, p .before);

@@ -52,8 +52,8 @@ told c =
     (⊎-elim (λ r. simp (r .5, r .6) (past-below _ _ _ _ _ _ _ _ _ _ (at-comparison (c .before .before)) _ (c .before .loop2 .inv) (r .0 .left) (r .4 .taken)))
     (⊎-elim (λ r. simp (r .7, r .8) (letter-below _ _ _ _ _ _ _ _ _ _ (at-comparison (c .before .before)) _ (c .before .loop2 .inv) (r .0 .left) (r .4 .left) (r .3 .taken) (sym (r .5 .ensures) ∙ r .6 .taken)))
     (⊎-elim (λ r. simp (r .7, r .8) (letter-above _ _ _ _ _ _ _ _ _ _ (at-comparison (c .before .before)) _ (c .before .loop2 .inv) (r .0 .left) (r .4 .left) (r .3 .taken) (sym (r .5 .ensures) ∙ r .6 .left)))
-    (⊎-elim (λ r. simp (r .7, r .8) (word-below _ _ _ _ _ _ _ _ _ _ (at-comparison (c .before .before)) _ (agree-more _ _ _ _ (c .before .loop2 .inv) (r .3 .left)) (r .4 .taken) (r .5 .taken)))
-    (λ r. simp (r .10, r .11) (leap-below _ _ _ _ _ _ _ _ _ _ (at-comparison (c .before .before)) _ (agree-more _ _ _ _ (c .before .loop2 .inv) (r .3 .left)) (r .4 .taken) (r .5 .taken) (r .6 .left) (rw (r .8 .ensures) at (r .9 .taken)))))))))
+    (⊎-elim (λ r. simp (r .7, r .8) (word-below _ _ _ _ _ _ _ _ _ _ (at-comparison (c .before .before)) _ (agree-more _ _ _ _ _ _ _ _ _ _ (at-comparison (c .before .before)) _ (c .before .loop2 .inv) (r .0 .left) (r .3 .left)) (r .4 .taken) (r .5 .taken)))
+    (λ r. simp (r .10, r .11) (leap-below _ _ _ _ _ _ _ _ _ _ (at-comparison (c .before .before)) _ (agree-more _ _ _ _ _ _ _ _ _ _ (at-comparison (c .before .before)) _ (c .before .loop2 .inv) (r .0 .left) (r .3 .left)) (r .4 .taken) (r .5 .taken) (r .6 .left) (rw (r .8 .ensures) at (r .9 .taken)))))))))
     (c .if1 .came)
 
 -- src/numbers.rt:35:17
@@ -86,7 +86,7 @@ remembered-requires c κs = factor-fits _ _ _ _ _ _ _ _ _ (c .before .before .be
 
 -- src/numbers.rt:43:13
 loop2-holds : tie.Need-loop2-holds Inv-loop2 μ-loop2 Inv-loop μ-loop
-loop2-holds c = record { agree = c .before .before .before .before .before .loop .inv .joining .agree (c .before .before .before .before .loop-test .taken) }
+loop2-holds c = record { agree = c .before .before .before .before .before .loop .inv .joining .agree (c .before .before .before .before .loop-test .taken); within = c .before .before .before .before .before .loop .inv .joining .within (c .before .before .before .before .loop-test .taken) }
 
 -- src/numbers.rt:50:26
 add-a : tie.Need-add-a Inv-loop2 μ-loop2 Inv-loop μ-loop
@@ -150,7 +150,7 @@ loop2-less c = search needs
 
 -- src/numbers.rt:43:13
 loop2-again : tie.Need-loop2-again Inv-loop2 μ-loop2 Inv-loop μ-loop
-loop2-again c = agree-more _ _ _ _ (c .before .before .before .before .before .before .before .before .before .before .loop2 .inv) (c .before .before .before .before .before .before .if3 .left)
+loop2-again c = agree-more _ _ _ _ _ _ _ _ _ _ (at-comparison (c .before .before .before .before .before .before .before .before .before .before .before)) _ (c .before .before .before .before .before .before .before .before .before .before .loop2 .inv) (c .before .before .before .before .before .before .before .before .before .if1 .left) (c .before .before .before .before .before .before .if3 .left)
 
 -- src/numbers.rt:43:13
 loop2-less-2 : tie.Need-loop2-less-2 Inv-loop2 μ-loop2 Inv-loop μ-loop
@@ -158,7 +158,7 @@ loop2-less-2 c = search needs
 
 -- src/numbers.rt:43:13
 loop2-again-2 : tie.Need-loop2-again-2 Inv-loop2 μ-loop2 Inv-loop μ-loop
-loop2-again-2 c = agree-more _ _ _ _ (c .before .before .before .before .before .before .loop2 .inv) (c .before .before .if3 .left)
+loop2-again-2 c = agree-more _ _ _ _ _ _ _ _ _ _ (at-comparison (c .before .before .before .before .before .before .before)) _ (c .before .before .before .before .before .before .loop2 .inv) (c .before .before .before .before .before .if1 .left) (c .before .before .if3 .left)
 
 -- src/numbers.rt:43:13
 loop2-less-3 : tie.Need-loop2-less-3 Inv-loop2 μ-loop2 Inv-loop μ-loop
@@ -166,7 +166,7 @@ loop2-less-3 c = search needs
 
 -- src/numbers.rt:43:13
 loop2-again-3 : tie.Need-loop2-again-3 Inv-loop2 μ-loop2 Inv-loop μ-loop
-loop2-again-3 c = agree-more _ _ _ _ (c .before .before .before .before .before .loop2 .inv) (c .before .if3 .left)
+loop2-again-3 c = agree-more _ _ _ _ _ _ _ _ _ _ (at-comparison (c .before .before .before .before .before .before)) _ (c .before .before .before .before .before .loop2 .inv) (c .before .before .before .before .if1 .left) (c .before .if3 .left)
 
 -- src/numbers.rt:76:33
 enum-told : tie.Need-enum-told Inv-loop2 μ-loop2 Inv-loop μ-loop
