@@ -41,22 +41,19 @@ stored-small order x before buf i s r w h l = go (w .joining .joined)
         )
 
 -- The length of the word from i is stored.
-pub filled-step : (order : ℕ) (x before₀ before after : List ℕ) (i s : ℕ) (r : Joined) → Filled order x before₀ before (i + 1) →
-    length x ≤ length before₀ → JoinedTo order x before after i r → s ≤ r .agreed → s ≤ r .part →
-    Filled order x before₀ (storedAt after i (r .end) s) i
-filled-step order x before₀ before after i s r f fits w a b = go (decLt 1 (e - i))
+pub filled-store : (order : ℕ) (x before₀ before after : List ℕ) (i e k g s : ℕ) → Filled order x before₀ before (i + 1) → length x ≤ length before₀ →
+    ChangedAfter before after i (length x) → Joining (orderOf order) (letters 0 x) (length x) (entryOf order x) (letters 0 after) i e k g →
+    NextSmaller (orderOf order) (letters 0 x) (length x) i e → s ≤ k → s ≤ g → Filled order x before₀ (storedAt after i e s) i
+filled-store order x before₀ before after i e k g s f fits changed joining next a b = go (decLt 1 (e - i))
   where
-    e : ℕ
-    e = r .end
-
     p : i < e
-    p = w .joining .lyndon .non-empty
+    p = joining .lyndon .non-empty
 
     q : e ≤ length x
-    q = w .joining .inside
+    q = joining .inside
 
     size : length after ≡ length before₀
-    size = w .changed .size ∙ f .others .size
+    size = changed .size ∙ f .others .size
 
     go : Dec (1 < e - i) → Filled order x before₀ (storedAt after i e s) i
     go (yes l) =
@@ -64,7 +61,7 @@ filled-step order x before₀ before after i s r f fits w a b = go (decLt 1 (e -
         (record {
           rows =
               joining-store (orderOf order) (letters 0 x) (length x) (entryOf order x) (entry-next order x) (letters 0 after)
-              (letters 0 (set (set after i (e - i)) (e - 1) s)) i e (r .agreed) (r .part) s (w .joining) (w .next)
+              (letters 0 (set (set after i (e - i)) (e - 1) s)) i e k g s joining next
               (own′ l) a b
               (λ t h z.
               subst (λ (u : ℕ). getD (set (set after i (e - i)) (e - 1) s) u 0 ≡ s) (last t z)
@@ -79,7 +76,7 @@ filled-step order x before₀ before after i s r f fits w a b = go (decLt 1 (e -
                     λ t h.
                     getD-set-other (set after i (e - i)) (e - 1) t s 0 (λ y. omega (arith, p, q)) ∙
                     getD-set-other after i t (e - i) 0 (λ y. omega (arith, p, q)) ∙
-                    w .changed .kept t (λ z. omega (arith, z .1)) ∙ f .others .kept t h;
+                    changed .kept t (λ z. omega (arith, z .1)) ∙ f .others .kept t h;
               };
         })
       where
@@ -98,7 +95,7 @@ filled-step order x before₀ before after i s r f fits w a b = go (decLt 1 (e -
         (record {
           rows =
               joining-store (orderOf order) (letters 0 x) (length x) (entryOf order x) (entry-next order x) (letters 0 after)
-              (letters 0 (set after i (e - i))) i e (r .agreed) (r .part) s (w .joining) (w .next)
+              (letters 0 (set after i (e - i))) i e k g s joining next
               own″ a b (λ t h z. absurd (omega (arith, l)))
               (λ t h m′ z. getD-set-other after i t (e - i) 0 (λ y. omega arith));
           others =
@@ -106,7 +103,7 @@ filled-step order x before₀ before after i s r f fits w a b = go (decLt 1 (e -
                 size = length-set after i (e - i) ∙ size;
                 kept =
                     λ t h.
-                    getD-set-other after i t (e - i) 0 (λ y. omega (arith, p, q)) ∙ w .changed .kept t (λ z. omega (arith, z .1)) ∙ f .others .kept t h;
+                    getD-set-other after i t (e - i) 0 (λ y. omega (arith, p, q)) ∙ changed .kept t (λ z. omega (arith, z .1)) ∙ f .others .kept t h;
               };
         })
       where
@@ -114,6 +111,12 @@ filled-step order x before₀ before after i s r f fits w a b = go (decLt 1 (e -
         own″ =
             let z : getD (set after i (e - i)) i 0 ≡ e - i = getD-set-same after i (e - i) 0 (omega (arith, size, p, q)) in
             omega (arith, p)
+
+pub filled-step : (order : ℕ) (x before₀ before after : List ℕ) (i s : ℕ) (r : Joined) → Filled order x before₀ before (i + 1) →
+    length x ≤ length before₀ → JoinedTo order x before after i r → s ≤ r .agreed → s ≤ r .part →
+    Filled order x before₀ (storedAt after i (r .end) s) i
+filled-step order x before₀ before after i s r f fits w a b =
+    filled-store order x before₀ before after i (r .end) (r .agreed) (r .part) s f fits (w .changed) (w .joining) (w .next) a b
 
 -- Nothing is restored yet.
 pub restored-start : (buf : List ℕ) (n : ℕ) → RestoredBelow buf buf n 0

@@ -1,2 +1,3 @@
 pub mod JoinLaws
 pub mod FillLaws
+pub mod RunLaws

@@ -36,7 +36,8 @@ commonPrefix-agreement (a ∷ u) (b ∷ v) = go (eqb a b) refl (commonPrefix-agr
           in-left = omega (arith, w .in-left);
           in-right = omega (arith, w .in-right);
           alike = alike;
-          differ = λ h g. w .differ (omega arith) (omega arith) }
+          differ = λ h g. w .differ (omega arith) (omega arith);
+        }
       where
         alike : (k : ℕ) → k < suc (commonPrefix u v) → getD (a ∷ u) k 0 ≡ getD (b ∷ v) k 0
         alike zero h = eqb→eq a b (rw e tt)
@@ -46,7 +47,8 @@ commonPrefix-agreement (a ∷ u) (b ∷ v) = go (eqb a b) refl (commonPrefix-agr
           in-left = omega arith;
           in-right = omega arith;
           alike = λ k h. absurd (omega arith);
-          differ = λ h g z. let q : eqb a b ≡ true = eq-eqb a b z in let y : _≡_ {A = ℕ} 0 1 = cc in omega arith }
+          differ = λ h g z. let q : eqb a b ≡ true = eq-eqb a b z in let y : _≡_ {A = ℕ} 0 1 = cc in omega arith;
+        }
 
 -- It is the only number that says so.
 pub agreement-is : (u v : List ℕ) (r : ℕ) → Agreement u v r → r ≡ commonPrefix u v
@@ -54,6 +56,7 @@ agreement-is u v r w = go (decLt r (commonPrefix u v)) (decLt (commonPrefix u v)
   where
     c : Agreement u v (commonPrefix u v)
     c = commonPrefix-agreement u v
+
     go : Dec (r < commonPrefix u v) → Dec (commonPrefix u v < r) → r ≡ commonPrefix u v
     go (yes p) q = absurd (w .differ (omega (arith, c .in-left)) (omega (arith, c .in-right)) (c .alike r p))
     go (no p) (yes q) = absurd (c .differ (omega (arith, w .in-left)) (omega (arith, w .in-right)) (w .alike (commonPrefix u v) q))

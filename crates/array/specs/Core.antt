@@ -3,3 +3,4 @@ pub mod State
 pub mod Order
 pub mod Join
 pub mod Fill
+pub mod RunPass

@@ -5,9 +5,9 @@
 // of a factor remembers how far the factor agrees with what follows, so that no text makes it slow. The runs are found in the same loop,
 // once in each order (document 002, RUNS), each at its rightmost root. Contracts cite `specs/Calls.antt` and the definitions of the crate
 // `words`. Nothing is assumed.
-pub mod bytes;
-pub mod numbers;
-pub mod runs;
 mod agreement;
-mod places;
+pub mod bytes;
 mod joined;
+pub mod numbers;
+mod places;
+pub mod runs;

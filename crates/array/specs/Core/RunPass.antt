@@ -1,0 +1,82 @@
+-- The runs that a pass of the join loop lists, position by position.
+-- Assumes nothing.
+use mathlib.Core.Path.{_≡_}
+use mathlib.Core.List.{List, [], _∷_}
+use Prim.Native.Nat.{ℕ, suc, _+_, _-_, _*_, _<_, _≤_}
+use lib.ListN.{length, getD, set}
+use Rattle.words.specs.Letters.{orderOf}
+use Rattle.words.specs.Runs.{Entry}
+use Rattle.words.specs.Laws.SpanLyndon.{letters}
+use Rattle.words.specs.Laws.Position.{Agree}
+use Rattle.words.specs.Laws.SuffixOrder.{NextSmaller}
+use Rattle.words.specs.Laws.RunMarks.{ListedEntry, endBound}
+use Rattle.words.specs.Laws.EachRunOnce.{ListsDown}
+use Rattle.array.specs.Core.State.{entryOf, RowsOf}
+use Rattle.array.specs.Core.Join.{Stopped, Agreeing}
+use Rattle.array.specs.Core.Fill.{KeptFrom, Filled}
+use Rattle.array.specs.declared.joined.Comparison.{Comparison}
+use Rattle.array.specs.declared.joined.Comparison.the-variants.{Below, Same, Above}
+
+-- The join loop of i has stopped at j after k letters.
+pub record StoppedAt (x buf : List ℕ) (i j k : ℕ) (stop : Comparison) : Type 0 where
+  pub order : ℕ
+  pub after : i < j
+  pub inside : j ≤ length x
+  pub fits : length x ≤ length buf
+  pub own : j < length x → getD buf j 0 ≡ entryOf order x j
+  pub agreeing : j < length x → Agreeing x i j k
+  pub stopped : Stopped order x i j k stop
+
+-- The suffixes at i and j agree on k letters and no more.
+pub record Exact (x : List ℕ) (i j k : ℕ) : Type 0 where
+  pub agree : Agree (letters 0 x) i j k
+  pub within : j + k ≤ length x
+  pub stops : j + k < length x → ¬ (letters 0 x (i + k) ≡ letters 0 x (j + k))
+
+-- How far they agree, by the comparison that stopped the joining.
+abbrev pub ExtendedTo : List ℕ → ℕ → ℕ → ℕ → Comparison → Type 0
+ExtendedTo x i j k Below = Unit {0}
+ExtendedTo x i j k Same = Agreeing x i j k
+ExtendedTo x i j k Above = Exact x i j k
+
+-- The letters from s up to i continue period p to the left, and none before them does.
+pub record LeftExtent (x : List ℕ) (i p s : ℕ) : Type 0 where
+  pub low : s ≤ i
+  pub left : (t : ℕ) → s ≤ t → t < i → letters 0 x t ≡ letters 0 x (t + p)
+  pub left-stops : (t : ℕ) → s ≡ suc t → ¬ (letters 0 x t ≡ letters 0 x (t + p))
+
+-- The next smaller suffix after i is at j, the two agree on k letters and no more, and k is less than their distance.
+pub record AtRoot (order : ℕ) (x : List ℕ) (i j k : ℕ) : Type 0 where
+  pub next : NextSmaller (orderOf order) (letters 0 x) (length x) i j
+  pub exact : Exact x i j k
+  pub short : i + k < j
+
+-- The list with r as entry k.
+abbrev pub put : List ℕ → ℕ → Entry → List ℕ
+put l k r = set (set (set l (3 * k) (r .start)) (3 * k + 1) (r .last)) (3 * k + 2) (r .period)
+
+-- The list with rs as its entries from k on.
+abbrev pub putAll : List ℕ → ℕ → List Entry → List ℕ
+putAll l k [] = l
+putAll l k (r ∷ rs) = putAll (put l k r) (suc k) rs
+
+-- Position i has listed its entry as entry `count`, or has none; r entries then.
+pub data Listed (order : ℕ) (x before after : List ℕ) (i count r : ℕ) : Type 0 where
+  skipped : r ≡ count → after ≡ before → ((e : Entry) → ¬ ListedEntry (orderOf order) (letters 0 x) (length x) (endBound order (length x)) i e) →
+      Listed order x before after i count r
+  listed : (e : Entry) → ListedEntry (orderOf order) (letters 0 x) (length x) (endBound order (length x)) i e → r ≡ count + 1 →
+      after ≡ put before count e → Listed order x before after i count r
+
+-- Position i has been visited.
+pub record Visited (order : ℕ) (x before after list list′ : List ℕ) (i count r : ℕ) : Type 0 where
+  pub rows : RowsOf order x after i
+  pub others : KeptFrom before after (length x)
+  pub entry : Listed order x list list′ i count r
+
+-- The positions from i on have been visited; their entries stand in the list from entry `from` on.
+pub record Passing (order : ℕ) (x before after list list′ : List ℕ) (from i count : ℕ) : Type 0 where
+  pub filled : Filled order x before after i
+  pub entries : List Entry
+  pub lists : ListsDown (orderOf order) (letters 0 x) (length x) (endBound order (length x)) i entries
+  pub counted : count ≡ from + length entries
+  pub content : list′ ≡ putAll list from entries
