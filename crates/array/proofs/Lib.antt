@@ -1,3 +1,4 @@
 pub mod JoinLaws
 pub mod FillLaws
 pub mod RunLaws
+pub mod RunsFound

@@ -1,10 +1,36 @@
 -- What the calls answer.
 -- Assumes nothing.
+use mathlib.Core.List.{List, _++_}
 use Prim.Native.Nat.{ℕ}
+use lib.ListN.{length}
+use Rattle.words.specs.Letters.{decided-rising, decided-falling}
+use Rattle.words.specs.Equality.{decided-number-equality}
+use Rattle.words.specs.Runs.{Entry, numbers}
+use Rattle.words.specs.Compute.LyndonArray.{arrayOf}
+use Rattle.words.specs.Compute.Runs.{runsOf}
+use Rattle.answer.specs.Limits.{runListLength, workLength}
 use Rattle.answer.specs.declared.Answer.{Answer}
 use Rattle.answer.specs.Answers.{acceptedWith}
-use Rattle.answer.specs.Checks.{lengthChecked, orderChecked, outputChecked}
+use Rattle.answer.specs.Checks.{lengthChecked, orderChecked, outputChecked, workChecked}
 
 -- The Lyndon array of n letters into a buffer of `given` places: checks 1, 2, 3 and 4 of document 01's table; the count is n.
 abbrev pub arrayAnswer : ℕ → ℕ → ℕ → Answer
 arrayAnswer n order given = lengthChecked n (orderChecked order (outputChecked n given (acceptedWith n)))
+
+-- The runs of a text of bytes, by start and then by last position.
+abbrev pub runList : List ℕ → List Entry
+runList x = runsOf decided-number-equality x
+
+-- The numbers that a run list holds.
+abbrev pub runNumbers : List ℕ → List ℕ
+runNumbers x = numbers (runList x)
+
+-- What the work buffer holds afterwards: the rising array, then the falling one.
+abbrev pub bothArrays : List ℕ → List ℕ
+bothArrays x = arrayOf decided-rising x ++ arrayOf decided-falling x
+
+-- The runs of a text, with the lengths of the work buffer and of the list: checks 1, 2, 4 and 5; the count is the number of runs.
+abbrev pub runsAnswer : List ℕ → ℕ → ℕ → Answer
+runsAnswer x work list =
+    lengthChecked (length x)
+    (outputChecked (runListLength (length x)) list (workChecked (workLength (length x)) work (acceptedWith (length (runList x)))))

@@ -3,11 +3,16 @@ use crate::agreement;
 use crate::bytes;
 use crate::joined::Comparison;
 use crate::places;
+use answer::Answer;
+use answer::Reason;
+use answer::limits;
 ghost use mathlib.Core.Path.{_≡_};
 ghost use Prim.Native.Nat.{_+_, _-_, _*_, _≤_, _<_};
 ghost use lib.ListN.{length};
 ghost use Rattle.array.specs.Core.State.{RowsOf};
-ghost use Rattle.array.specs.Core.RunPass.{StoppedAt, ExtendedTo, LeftExtent, AtRoot, Listed, Visited, Passing, put};
+ghost use Rattle.array.specs.Core.RunPass.{StoppedAt, ExtendedTo, LeftExtent, AtRoot, Listed, Visited, Passing, put, OrderDone, RunsFound};
+ghost use Rattle.array.specs.Calls.{runsAnswer, runNumbers, bothArrays};
+ghost use Rattle.answer.specs.Checks.{contentAfter};
 
 // How far the suffixes at i and end agree, where the join loop of i has stopped at end after `agreed` letters: all letters that do, unless
 // the two factors are the same; 0 at the end of the text.
@@ -129,4 +134,49 @@ fn pass(text: &[u8], order: u32, buf: &mut [u32], list: &mut [u32], from: usize)
         count = visit(text, order, buf, list, count, i);
     }
     count
+}
+
+// One order: its array into the buffer, and the runs of that order into the list from entry `from` on; the number of entries then.
+fn order_pass(text: &[u8], order: u32, buf: &mut [u32], list: &mut [u32], from: usize) -> usize
+    requires { ⌜ (length (now text) ≤ length (now buf)) × (length (now text) ≤ 1048576) × (3 * from + 3 * length (now text) ≤ length (now list)) ⌝ }
+    ensures { λ r. ⌜ OrderDone order (now (text .entry)) (now (buf .entry)) (now (buf .exit)) (now (list .entry)) (now (list .exit)) from r ⌝ }
+{
+    let count = pass(text, order, buf, list, from);
+    places::restore_all(buf, text.len());
+    count
+}
+
+// Both orders, the runs sorted by start and then by last position; the number of runs.
+fn find(text: &[u8], work: &mut [u32], list: &mut [u32]) -> usize
+    requires { ⌜ (length (now text) ≤ 1048576) × (6 * length (now text) ≤ length (now list)) × (2 * length (now text) ≤ length (now work)) ⌝ }
+    ensures { λ r. ⌜ RunsFound (now (text .entry)) (now (work .entry)) (now (work .exit)) (now (list .entry)) (now (list .exit)) r ⌝ }
+{
+    let n = text.len();
+    let first = order_pass(text, 0, work, list, 0);
+    let count = order_pass(text, 1, &mut work[n..], list, first);
+    sorting::sort_triples(list, count);
+    count
+}
+
+// All runs of a text of bytes: start, last position and period of each, by start and then by last position. Afterwards the work buffer
+// holds the rising Lyndon array of the text and then the falling one. Refused by document 01's checks 1, 2, 4 and 5.
+pub fn runs(text: &[u8], work: &mut [u32], list: &mut [u32]) -> Answer
+    ensures answer { λ r. ⌜ r ≡ runsAnswer (now (text .entry)) (length (now (work .entry))) (length (now (list .entry))) ⌝ }
+    ensures entries { λ r. ⌜ now (list .exit) ≡ contentAfter r (runNumbers (now (text .entry))) (now (list .entry)) ⌝ }
+    ensures arrays { λ r. ⌜ now (work .exit) ≡ contentAfter r (bothArrays (now (text .entry))) (now (work .entry)) ⌝ }
+{
+    let n = text.len();
+    if n == 0 {
+        return answer::refused(Reason::EmptyInput, 0);
+    }
+    if limits::MAX_LENGTH < n {
+        return answer::refused(Reason::TooLong, 0);
+    }
+    if list.len() < limits::run_list_length(n as u32) {
+        return answer::refused(Reason::ShortOutput, 0);
+    }
+    if work.len() < limits::work_length(n as u32) {
+        return answer::refused(Reason::ShortWork, 0);
+    }
+    answer::accepted(find(text, work, list) as u32)
 }

@@ -11,6 +11,10 @@ use Rattle.words.specs.Laws.Position.{Agree}
 use Rattle.words.specs.Laws.SuffixOrder.{NextSmaller}
 use Rattle.words.specs.Laws.RunMarks.{ListedEntry, endBound}
 use Rattle.words.specs.Laws.EachRunOnce.{ListsDown}
+use Rattle.words.specs.Letters.{decided-order}
+use Rattle.words.specs.Compute.LyndonArray.{arrayOf}
+use Rattle.answer.specs.Checks.{written}
+use Rattle.array.specs.Calls.{runList, runNumbers, bothArrays}
 use Rattle.array.specs.Core.State.{entryOf, RowsOf}
 use Rattle.array.specs.Core.Join.{Stopped, Agreeing}
 use Rattle.array.specs.Core.Fill.{KeptFrom, Filled}
@@ -80,3 +84,18 @@ pub record Passing (order : ℕ) (x before after list list′ : List ℕ) (from 
   pub lists : ListsDown (orderOf order) (letters 0 x) (length x) (endBound order (length x)) i entries
   pub counted : count ≡ from + length entries
   pub content : list′ ≡ putAll list from entries
+
+-- One order is done: its array is written, and its runs stand in the list from entry `from` on.
+pub record OrderDone (order : ℕ) (x before after list list′ : List ℕ) (from count : ℕ) : Type 0 where
+  pub array : after ≡ written (arrayOf (decided-order order) x) before
+  pub entries : List Entry
+  pub lists : ListsDown (orderOf order) (letters 0 x) (length x) (endBound order (length x)) 0 entries
+  pub counted : count ≡ from + length entries
+  pub content : list′ ≡ putAll list from entries
+
+-- Both orders are done, and the runs are sorted.
+pub record RunsFound (x before after list list′ : List ℕ) (count : ℕ) : Type 0 where
+  pub counted : count ≡ length (runList x)
+  pub few : count ≤ length x + length x
+  pub entries : list′ ≡ written (runNumbers x) list
+  pub arrays : after ≡ written (bothArrays x) before

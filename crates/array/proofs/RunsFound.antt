@@ -1,0 +1,148 @@
+-- Both passes and the sort together: the run list, and the two arrays in the work buffer.
+-- Assumes nothing.
+use mathlib.Core.Path.{_≡_, refl, sym, ap, subst, _∙_}
+use mathlib.Core.List.{List, [], _∷_, _++_, List·Memᴰ, append-assoc, append-nil}
+use Prim.Native.Nat.{ℕ, zero, suc, _+_, _-_, _*_, _<_, _≤_}
+use native.Mathlib.Omega.{arith}
+use lib.ListN.{length, getD, set, take, drop, length-append, length-drop, length-take, take-append-drop, drop-of-length-le}
+use lib.Seq.{set-at, take-at, drop-at, drop-drop, take-all}
+use Rattle.words.specs.Letters.{rising, falling, orderOf, decided-rising, decided-falling, decided-order}
+use Rattle.words.specs.Equality.{decided-number-equality}
+use Rattle.words.specs.Runs.{Entry, IsRunList, numbers}
+use Rattle.words.specs.Laws.SpanLyndon.{letters}
+use Rattle.words.specs.Laws.RunMarks.{endBound}
+use Rattle.words.specs.Laws.EachRunOnce.{ListsDown, EachRunOnce, each-run-once, rearranged-run-list}
+use Rattle.words.specs.Laws.Runs.{run-list-unique, numbers-length}
+use Rattle.words.specs.Compute.LyndonArray.{arrayOf, arrayOf-right}
+use Rattle.words.specs.Compute.Runs.{runsOf-right}
+use Rattle.answer.specs.Checks.{written}
+use Rattle.sorting.specs.Triples.{AfterSort}
+use Rattle.sorting.specs.RunList.{RunsSorted, runs-sorted, sorted-member, member-sorted, sorted-length}
+use Rattle.array.specs.Calls.{runList, runNumbers, bothArrays}
+use Rattle.array.specs.Core.State.{letters-compared}
+use Rattle.array.specs.Core.RunPass.{put, putAll, Passing, OrderDone, RunsFound}
+use Rattle.array.specs.Core.Fill.{AllRestored}
+use Rattle.array.proofs.FillLaws.{array-written}
+use Rattle.array.proofs.RunLaws.{putAll-append, putAll-length}
+
+-- One entry put behind k others.
+put-behind : (p q : List ℕ) (k a b c : ℕ) (r : Entry) → length p ≡ 3 * k → put (p ++ (a ∷ b ∷ c ∷ q)) k r ≡ (p ++ numbers (r ∷ [])) ++ q
+put-behind p q k a b c r e =
+    ap (λ (l : List ℕ). set (set l (3 * k + 1) (r .last)) (3 * k + 2) (r .period)) one ∙ ap (λ (l : List ℕ). set l (3 * k + 2) (r .period)) two ∙ three
+  where
+    one : set (p ++ (a ∷ b ∷ c ∷ q)) (3 * k) (r .start) ≡ (p ++ (r .start ∷ [])) ++ (b ∷ c ∷ q)
+    one = set-at p a (b ∷ c ∷ q) (r .start) (3 * k) e ∙ simp append-assoc
+
+    two : set ((p ++ (r .start ∷ [])) ++ (b ∷ c ∷ q)) (3 * k + 1) (r .last) ≡ (p ++ (r .start ∷ r .last ∷ [])) ++ (c ∷ q)
+    two =
+        set-at (p ++ (r .start ∷ [])) b (c ∷ q) (r .last) (3 * k + 1) (omega (arith, length-append p (r .start ∷ []))) ∙ simp append-assoc
+
+    three : set ((p ++ (r .start ∷ r .last ∷ [])) ++ (c ∷ q)) (3 * k + 2) (r .period) ≡ (p ++ numbers (r ∷ [])) ++ q
+    three =
+        set-at (p ++ (r .start ∷ r .last ∷ [])) c q (r .period) (3 * k + 2) (omega (arith, length-append p (r .start ∷ r .last ∷ []))) ∙ simp append-assoc
+
+-- Entries written behind p are their numbers, and what is left of q.
+putAll-behind : (rs : List Entry) (p q : List ℕ) (k : ℕ) → length p ≡ 3 * k → 3 * length rs ≤ length q →
+    putAll (p ++ q) k rs ≡ p ++ (numbers rs ++ drop (3 * length rs) q)
+putAll-behind [] p q k e h = refl
+putAll-behind (r ∷ rs) p [] k e h = absurd (omega arith)
+putAll-behind (r ∷ rs) p (a ∷ []) k e h = absurd (omega arith)
+putAll-behind (r ∷ rs) p (a ∷ b ∷ []) k e h = absurd (omega arith)
+putAll-behind (r ∷ rs) p (a ∷ b ∷ c ∷ q) k e h =
+    let z : 3 * suc (length rs) ≡ suc (suc (suc (3 * length rs))) = omega arith in
+    ap (λ (l : List ℕ). putAll l (suc k) rs) (put-behind p q k a b c r e) ∙
+    putAll-behind rs (p ++ numbers (r ∷ [])) q (suc k) (omega (arith, length-append p (numbers (r ∷ [])))) (omega arith) ∙
+    rw z (append-assoc p (numbers (r ∷ [])) (numbers rs ++ drop (3 * length rs) q))
+
+-- Entries written from the start.
+pub putAll-written : (l : List ℕ) (rs : List Entry) → 3 * length rs ≤ length l → putAll l 0 rs ≡ written (numbers rs) l
+putAll-written l rs h =
+    putAll-behind rs [] l 0 refl h ∙ ap (λ (m : ℕ). numbers rs ++ drop m l) (sym (numbers-length rs))
+
+module _ (x : List ℕ) (work work₁ part list list₁ list₂ list₃ : List ℕ) (first count : ℕ)
+    (a : OrderDone 0 x work work₁ list list₁ 0 first)
+    (b : OrderDone 1 x (take (length work₁ - length x) (drop (length x) work₁)) part list₁ list₂ first count)
+    (s : AfterSort count list₂ list₃) (work-fits : 2 * length x ≤ length work) (list-fits : 6 * length x ≤ length list) where
+  once : EachRunOnce x (a .entries ++ b .entries)
+  once = each-run-once rising 0 x (letters-compared 0 x) (a .entries) (b .entries) (a .lists) (b .lists)
+
+  found : list₂ ≡ written (numbers (a .entries ++ b .entries)) list
+  found =
+      b .content ∙ ap (λ (l : List ℕ). putAll l first (b .entries)) (a .content) ∙
+      ap (λ (k : ℕ). putAll (putAll list 0 (a .entries)) k (b .entries)) (a .counted) ∙
+      sym (putAll-append list 0 (a .entries) (b .entries)) ∙
+      putAll-written list (a .entries ++ b .entries)
+      (omega (arith, length-append (a .entries) (b .entries), a .lists .size, b .lists .size))
+
+  number : count ≡ length (a .entries ++ b .entries)
+  number = omega (arith, a .counted, b .counted, length-append (a .entries) (b .entries))
+
+  sorted : RunsSorted (a .entries ++ b .entries) (drop (length (numbers (a .entries ++ b .entries))) list) list₃
+  sorted =
+      runs-sorted (a .entries ++ b .entries) (drop (length (numbers (a .entries ++ b .entries))) list) list₂ list₃ found
+      (subst (λ (k : ℕ). AfterSort k list₂ list₃) number s)
+
+  is-list : sorted .entries ≡ runList x
+  is-list =
+      run-list-unique
+      (rearranged-run-list x (a .entries ++ b .entries) (sorted .entries) once (member-sorted sorted) (sorted-member sorted) (sorted-length sorted) (sorted .ordered))
+      (runsOf-right decided-number-equality x)
+
+  size : (order : ℕ) → length (arrayOf (decided-order order) x) ≡ length x
+  size order = arrayOf-right (decided-order order) x .size
+
+  first-array : take (length x) work₁ ≡ arrayOf decided-rising x
+  first-array = ap (take (length x)) (a .array) ∙ take-at (arrayOf decided-rising x) (drop (length (arrayOf decided-rising x)) work) (length x) (size 0)
+
+  behind-first : drop (length x) work₁ ≡ drop (length x) work
+  behind-first =
+      ap (drop (length x)) (a .array) ∙ drop-at (arrayOf decided-rising x) (drop (length (arrayOf decided-rising x)) work) (length x) (size 0) ∙
+      ap (λ (m : ℕ). drop m work) (size 0)
+
+  second-array : part ≡ arrayOf decided-falling x ++ drop (length x + length x) work
+  second-array =
+      b .array ∙
+      ap (λ (l : List ℕ). arrayOf decided-falling x ++ drop (length (arrayOf decided-falling x)) l)
+      (take-all (length work₁ - length x) (drop (length x) work₁) (omega (arith, length-drop (length x) work₁)) ∙ behind-first) ∙
+      ap (λ (m : ℕ). arrayOf decided-falling x ++ drop m (drop (length x) work)) (size 1) ∙
+      ap (λ (l : List ℕ). arrayOf decided-falling x ++ l) (drop-drop (length x) (length x) work)
+
+  nothing-behind : drop (length work₁ - length x) (drop (length x) work₁) ≡ []
+  nothing-behind =
+      drop-of-length-le (drop (length x) work₁) {i = length work₁ - length x} (omega (arith, length-drop (length x) work₁))
+
+  both-written : take (length x) work₁ ++ (part ++ drop (length work₁ - length x) (drop (length x) work₁)) ≡ written (bothArrays x) work
+  both-written =
+      ap (λ (l : List ℕ). l ++ (part ++ drop (length work₁ - length x) (drop (length x) work₁))) first-array ∙
+      ap (λ (l : List ℕ). arrayOf decided-rising x ++ (part ++ l)) nothing-behind ∙
+      ap (λ (l : List ℕ). arrayOf decided-rising x ++ l) (append-nil part ∙ second-array) ∙
+      sym (append-assoc (arrayOf decided-rising x) (arrayOf decided-falling x) (drop (length x + length x) work)) ∙
+      ap (λ (m : ℕ). bothArrays x ++ drop m work)
+      (let z : length (arrayOf decided-rising x ++ arrayOf decided-falling x) ≡ length x + length x =
+      length-append (arrayOf decided-rising x) (arrayOf decided-falling x) ∙ omega (arith, size 0, size 1) in
+      sym z)
+
+  pub runs-found : RunsFound x work (take (length x) work₁ ++ (part ++ drop (length work₁ - length x) (drop (length x) work₁))) list list₃ count
+  runs-found =
+      record {
+        few = omega (arith, number, length-append (a .entries) (b .entries), a .lists .size, b .lists .size);
+        counted = number ∙ sym (sorted-length sorted) ∙ ap length is-list;
+        entries =
+            sorted .content ∙
+            ap (λ (m : ℕ). numbers (sorted .entries) ++ drop m list)
+            (numbers-length (a .entries ++ b .entries) ∙ ap (λ (k : ℕ). 3 * k) (sym (sorted-length sorted)) ∙ sym (numbers-length (sorted .entries))) ∙
+            ap (λ (rs : List Entry). written (numbers rs) list) is-list;
+        arrays = both-written;
+      }
+
+-- A pass over all positions, with every last place restored.
+pub order-done : (order : ℕ) (x before buf after list list′ : List ℕ) (from count : ℕ) → length x ≤ length before →
+    Passing order x before buf list list′ from 0 count → AllRestored buf after (length x) → OrderDone order x before after list list′ from count
+order-done order x before buf after list list′ from count fits p r =
+    record {
+      array = array-written order x before buf after fits (p .filled) r;
+      entries = p .entries;
+      lists = p .lists;
+      counted = p .counted;
+      content = p .content;
+    }
