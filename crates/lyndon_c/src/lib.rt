@@ -6,7 +6,7 @@ ghost use mathlib.Core.Path.{_≡_};
 ghost use lib.ListN.{length};
 ghost use Rattle.lyndon_c.specs.Record.{recordOf};
 ghost use Rattle.answer.specs.Checks.{contentAfter};
-ghost use Rattle.array.specs.Calls.{arrayAnswer};
+ghost use Rattle.array.specs.Calls.{arrayAnswer, runsAnswer, runNumbers, bothArrays};
 ghost use Rattle.words.specs.Letters.{decided-order};
 ghost use Rattle.words.specs.Compute.LyndonArray.{arrayOf};
 
@@ -42,4 +42,14 @@ pub extern "C" fn lyndon_array_u32(text: &[u32], order: u32, out: &mut [u32]) ->
     ensures content { λ r. ⌜ now (out .exit) ≡ contentAfter (arrayAnswer (length (now (text .entry))) order (length (now (out .entry)))) (arrayOf (decided-order order) (now (text .entry))) (now (out .entry)) ⌝ }
 {
     exported(array::numbers::lyndon_array(text, order, out))
+}
+
+// All runs of a text of bytes.
+#[no_mangle]
+pub extern "C" fn lyndon_runs(text: &[u8], work: &mut [u32], list: &mut [u32]) -> LyndonAnswer
+    ensures answer { λ r. ⌜ r ≡ recordOf (runsAnswer (now (text .entry)) (length (now (work .entry))) (length (now (list .entry)))) ⌝ }
+    ensures entries { λ r. ⌜ now (list .exit) ≡ contentAfter (runsAnswer (now (text .entry)) (length (now (work .entry))) (length (now (list .entry)))) (runNumbers (now (text .entry))) (now (list .entry)) ⌝ }
+    ensures arrays { λ r. ⌜ now (work .exit) ≡ contentAfter (runsAnswer (now (text .entry)) (length (now (work .entry))) (length (now (list .entry)))) (bothArrays (now (text .entry))) (now (work .entry)) ⌝ }
+{
+    exported(array::runs::runs(text, work, list))
 }
