@@ -10,6 +10,7 @@
 #define LARGEST 1048576
 static uint8_t text[LARGEST];
 static uint32_t wide[LARGEST], out[LARGEST], want[LARGEST];
+static uint32_t work[2 * LARGEST], work2[2 * LARGEST], list[6 * LARGEST], list2[6 * LARGEST];
 
 static double now(void) {
     struct timespec t;
@@ -87,10 +88,45 @@ static void array_wide(void) {
         }
 }
 
+static void run_calls(void) {
+    double dna = 0, worst = 0, natural_ratio = 0, growth = 0;
+    const char *worst_name = "";
+    printf("\nruns, both arrays and the sort included: ns a letter, this library / C -O3\n");
+    for (int f = 0; f < family_count(); f++) {
+        printf("  %-26s", family_name(f));
+        double first = 0, last = 0;
+        for (int s = 0; s < 3; s++) {
+            size_t n = sizes[s];
+            family_fill(f, text, n);
+            lyndon_answer answer = {0, 0};
+            size_t count = 0;
+            double ours = BEST(n, 5, answer = lyndon_runs(text, n, work, 2 * n, list, 6 * n));
+            double theirs = BEST(n, 5, count = reference_runs(text, n, work2, list2));
+            if (answer.number != 0 || answer.value != count) {
+                fprintf(stderr, "runs on %s: the counts differ\n", family_name(f));
+                exit(1);
+            }
+            check("runs", family_name(f), n, list, list2, 3 * count);
+            check("runs", family_name(f), n, work, work2, 2 * n);
+            printf("  %6.2f /%6.2f", ours, theirs);
+            if (s == 0) first = ours;
+            last = ours;
+            if (s == 2 && f == 0) dna = ours;
+            if (s == 2 && family_natural(f) && ours / theirs > natural_ratio) natural_ratio = ours / theirs;
+        }
+        if (last > worst) worst = last, worst_name = family_name(f);
+        if (last / first > growth) growth = last / first;
+        printf("\n");
+    }
+    printf("  slowest family at 1,048,576 letters: %s, %.2f times random DNA; natural families at most %.2f times C; largest growth from 65,536 letters: %.2f\n",
+        worst_name, worst / dna, natural_ratio, growth);
+}
+
 int main(void) {
     printf("letters: 65,536  262,144  1,048,576; best of 5 runs\n");
     array_calls(0);
     array_calls(1);
     array_wide();
+    run_calls();
     return 0;
 }

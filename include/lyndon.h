@@ -22,6 +22,7 @@ extern "C" {
  *   2  it is longer than 1,048,576
  *   3  the order number is neither 0 nor 1
  *   4  an output buffer is shorter than needed
+ *   5  the work buffer is shorter than 2 n
  */
 typedef struct {
     uint32_t number;
@@ -37,6 +38,11 @@ typedef struct {
  * Refusals 1, 2, 3, 4. */
 lyndon_answer lyndon_array_u8(const uint8_t *text, size_t n, uint32_t order, uint32_t *out, size_t out_len);
 lyndon_answer lyndon_array_u32(const uint32_t *text, size_t n, uint32_t order, uint32_t *out, size_t out_len);
+
+/* All runs (maximal periodicities) of a text: list holds start, last position and period for each run, by start and then by last
+ * position; the count is the number of runs. The list needs 6 n places, the work buffer 2 n; afterwards work holds the rising Lyndon
+ * array and then the falling one. Refusals 1, 2, 4 (list), 5. */
+lyndon_answer lyndon_runs(const uint8_t *text, size_t n, uint32_t *work, size_t work_len, uint32_t *list, size_t list_len);
 
 #ifdef __cplusplus
 }
