@@ -14,3 +14,6 @@ pub mod ForestUnique
 pub mod Runs
 pub mod RunRenaming
 pub mod ValidArray
+pub mod Repetition
+pub mod LowestSuffix
+pub mod LongestEnding
