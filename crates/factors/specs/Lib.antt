@@ -1,0 +1,7 @@
+pub mod Default
+pub mod Compared
+pub mod Duval
+pub mod DuvalSteps
+pub mod DuvalFactorization
+pub mod Room
+pub mod Answers
