@@ -1,1 +1,3 @@
 pub mod Scanning
+pub mod Listing
+pub mod Checked

@@ -4,4 +4,5 @@ pub mod Duval
 pub mod DuvalSteps
 pub mod DuvalFactorization
 pub mod Room
+pub mod Results
 pub mod Answers

@@ -1,38 +1,31 @@
 // The factor list of a byte text.
-use answer::limits;
+use super::scan::Stretch;
+use super::scan::stretch_at;
 use answer::Answer;
 use answer::Reason;
-use super::scan::scan;
-
+use answer::limits;
 ghost use mathlib.Core.Path.{_≡_};
-ghost use mathlib.Core.List.{_++_};
-ghost use lib.ListN.{length, drop};
+ghost use lib.ListN.{length};
 ghost use Rattle.words.specs.Compute.Factorization.{factorizationOf};
-ghost use Rattle.answer.specs.Checks.{contentAfter, written};
+ghost use Rattle.answer.specs.Checks.{contentAfter};
 ghost use Rattle.factors.specs.Default.{decided-default};
 ghost use Rattle.factors.specs.Room.{Room};
-ghost use Rattle.factors.specs.Duval.{duval};
+ghost use Rattle.factors.specs.Results.{Listed};
 ghost use Rattle.factors.specs.Answers.{factorizationAnswer};
 
 // Writes the starts of the factors, one a turn, and returns how many there are.
 fn list_factors(text: &[u8], out: &mut [u32]) -> u32
     requires { ⌜ Room (now text) (now out) ⌝ }
-    ensures { λ r. ⌜ r ≡ length (duval decided-default 0 (now (text .entry))) ⌝ }
-    ensures { λ r. ⌜ now (out .exit) ≡ written (duval decided-default 0 (now (text .entry))) (now (out .entry)) ⌝ }
+    ensures { λ r. ⌜ Listed (now (text .entry)) (now (out .entry)) (now (out .exit)) r ⌝ }
 {
     let mut count: usize = 0;
     let mut start: usize = 0;
-    let mut period: usize = 1;
-    let mut end: usize = 0;
+    let mut s = Stretch { period: 1, end: 0 };
     while start < text.len() {
-        if end < start + period {
-            let s = scan(text, start);
-            period = s.period;
-            end = s.end;
-        }
+        s = stretch_at(text, start, s);
         out[count] = start as u32;
         count += 1;
-        start += period;
+        start += s.period;
     }
     count as u32
 }

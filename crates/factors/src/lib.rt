@@ -2,6 +2,6 @@
 // suffix table and the left forest, each a public call with no `requires`.
 //
 // Contracts cite `specs/Answers.antt` and the definitions of `words`. Nothing is assumed.
+pub mod factorization;
 mod order;
 mod scan;
-pub mod factorization;
