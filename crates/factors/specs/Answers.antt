@@ -13,3 +13,7 @@ use Rattle.factors.specs.Default.{decided-default}
 abbrev pub factorizationAnswer : List ℕ → ℕ → Answer
 factorizationAnswer x given =
     lengthChecked (length x) (outputChecked (length x) given (acceptedWith (length (factorizationOf decided-default x))))
+
+-- The Lyndon suffix table of x, in a buffer of `given` places: the count is the number of letters.
+abbrev pub suffixTableAnswer : List ℕ → ℕ → Answer
+suffixTableAnswer x given = lengthChecked (length x) (outputChecked (length x) given (acceptedWith (length x)))

@@ -5,3 +5,4 @@
 pub mod factorization;
 mod order;
 mod scan;
+pub mod suffix_table;

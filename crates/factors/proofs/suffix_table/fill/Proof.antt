@@ -1,0 +1,185 @@
+-- `factors::suffix_table::fill` meets its contract: each turn writes the entry of the letter that it reads.
+-- Assumes nothing.
+use Prim.Native.Nat.{_-_}
+use native.Mathlib.Omega.{arith}
+use mathlib.Core.Path.{_∙_}
+use mathlib.Core.Logic.{⊎-elim}
+use borrow.Author.Needs.{needs}
+use lib.ListN.{length, length-set}
+use Rattle.factors.proofs.Tabling.{Filling, filling-start, filling-below, filling-same, filling-above, filling-end, filled-first}
+use Rattle.factors.proofs.suffix_table.fill.Statement.{statement}
+use Rattle.factors.proofs.suffix_table.fill.Tie as tie
+use Rattle.factors.proofs.suffix_table.fill.Reads as reads
+use Rattle.factors.proofs.suffix_table.fill.Lts as lts
+use Rattle.factors.proofs.order.compare.Reads as compare-reads
+
+abbrev Inv-loop : tie.InvT-loop
+Inv-loop text out₀ start period₀ end₀ out period end = Filling text out₀ out start period end
+
+abbrev μ-loop : tie.MeasureT-loop
+μ-loop text out₀ start period₀ end₀ out period end = length text - end
+
+-- src/suffix_table.rt:27:19
+add-end : tie.Need-add-end Inv-loop μ-loop
+add-end c = omega arith
+
+-- src/suffix_table.rt:28:5
+mul-out : tie.Need-mul-out Inv-loop μ-loop
+mul-out c = omega arith
+
+-- src/suffix_table.rt:28:5
+slice-write-out : tie.Need-slice-write-out Inv-loop μ-loop
+slice-write-out c = omega arith
+
+-- src/suffix_table.rt:29:5
+loop-holds : tie.Need-loop-holds Inv-loop μ-loop
+loop-holds c = filling-start _ _ _ (c .before .before .pre .0) (c .before .before .pre .1)
+
+-- src/suffix_table.rt:30:25
+shared-slice-read-compare : tie.Need-shared-slice-read-compare Inv-loop μ-loop
+shared-slice-read-compare c = omega arith
+
+-- src/suffix_table.rt:30:41
+sub-compare : tie.Need-sub-compare Inv-loop μ-loop
+sub-compare c = omega arith
+
+-- src/suffix_table.rt:30:36
+shared-slice-read-compare-2 : tie.Need-shared-slice-read-compare-2 Inv-loop μ-loop
+shared-slice-read-compare-2 c = omega arith
+
+-- src/suffix_table.rt:30:13
+compare-requires : tie.Need-compare-requires Inv-loop μ-loop
+compare-requires c κs = search needs
+
+-- src/suffix_table.rt:33:17
+enum-told : tie.Need-enum-told Inv-loop μ-loop
+enum-told c = search needs
+
+-- src/suffix_table.rt:33:17
+same-length : tie.Need-same-length Inv-loop μ-loop
+same-length c = c .before .before .before .before .before .before .loop .inv .table .size ∙ simp length-set
+
+-- src/suffix_table.rt:33:17
+returns : tie.Need-returns Inv-loop μ-loop
+returns c =
+    filled-first _ _ _ _ _ _ (c .before .before .before .before .before .before .before .before .before .pre .1 .inside)
+    (filling-below _ _ _ _ _ _ (c .before .before .before .before .before .before .before .before .before .pre .1 .lowest)
+    (c .before .before .before .before .before .before .loop .inv) (c .before .before .before .before .before .loop-test .taken)
+    (c .before .before .compare .result) (c .before .before .compare .ensures) (c .enum-told .given .1))
+
+-- src/suffix_table.rt:36:32
+enum-told-2 : tie.Need-enum-told-2 Inv-loop μ-loop
+enum-told-2 c = search needs
+
+-- src/suffix_table.rt:36:32
+sub-out : tie.Need-sub-out Inv-loop μ-loop
+sub-out c = omega arith
+
+-- src/suffix_table.rt:36:28
+mul-out-2 : tie.Need-mul-out-2 Inv-loop μ-loop
+mul-out-2 c = omega arith
+
+-- src/suffix_table.rt:36:28
+slice-read-out : tie.Need-slice-read-out Inv-loop μ-loop
+slice-read-out c = omega arith
+
+-- src/suffix_table.rt:36:17
+mul-out-3 : tie.Need-mul-out-3 Inv-loop μ-loop
+mul-out-3 c = omega arith
+
+-- src/suffix_table.rt:36:17
+slice-write-out-2 : tie.Need-slice-write-out-2 Inv-loop μ-loop
+slice-write-out-2 c = omega arith
+
+-- src/suffix_table.rt:39:26
+enum-told-3 : tie.Need-enum-told-3 Inv-loop μ-loop
+enum-told-3 c = search needs
+
+-- src/suffix_table.rt:39:26
+add-period : tie.Need-add-period Inv-loop μ-loop
+add-period c = omega arith
+
+-- src/suffix_table.rt:39:26
+sub-period : tie.Need-sub-period Inv-loop μ-loop
+sub-period c = omega arith
+
+-- src/suffix_table.rt:40:28
+cast-out : tie.Need-cast-out Inv-loop μ-loop
+cast-out c = omega arith
+
+-- src/suffix_table.rt:40:17
+mul-out-4 : tie.Need-mul-out-4 Inv-loop μ-loop
+mul-out-4 c = omega arith
+
+-- src/suffix_table.rt:40:17
+slice-write-out-3 : tie.Need-slice-write-out-3 Inv-loop μ-loop
+slice-write-out-3 c = omega arith
+
+-- src/suffix_table.rt:43:9
+add-end-2 : tie.Need-add-end-2 Inv-loop μ-loop
+add-end-2 c = omega arith
+
+-- src/suffix_table.rt:29:5
+loop-less : tie.Need-loop-less Inv-loop μ-loop
+loop-less c = omega arith
+
+-- src/suffix_table.rt:29:5
+loop-again : tie.Need-loop-again Inv-loop μ-loop
+loop-again c =
+    ⊎-elim
+    (λ w.
+    rw (w .3, w .4)
+    (filling-same _ _ _ _ _ _ (c .before .before .before .before .before .before .before .before .pre .1 .lowest)
+    (c .before .before .before .before .before .loop .inv) (c .before .before .before .before .loop-test .taken)
+    (c .before .compare .result) (c .before .compare .ensures) (w .1 .given .1)))
+    (λ w.
+    rw (w .2, w .3)
+    (filling-above _ _ _ _ _ _ (c .before .before .before .before .before .before .before .before .pre .1 .lowest)
+    (c .before .before .before .before .before .loop .inv) (c .before .before .before .before .loop-test .taken)
+    (c .before .compare .result) (c .before .compare .ensures) (w .1 .given .1)))
+    (c .match .came)
+
+-- src/suffix_table.rt:21:1
+same-length-2 : tie.Need-same-length-2 Inv-loop μ-loop
+same-length-2 c = c .before .loop .inv .table .size ∙ simp length-set
+
+-- src/suffix_table.rt:21:1
+returns-2 : tie.Need-returns-2 Inv-loop μ-loop
+returns-2 c =
+    filled-first _ _ _ _ _ _ (c .before .before .before .before .pre .1 .inside)
+    (filling-end _ _ _ _ _ _ (c .before .before .before .before .pre .1 .lowest) (c .before .loop .inv) (c .loop-test .left))
+
+pub fill-spec : {M : Type 1} → statement M
+fill-spec =
+    tie.close
+    (tie.spec
+    Inv-loop
+    μ-loop
+    add-end
+    mul-out
+    slice-write-out
+    loop-holds
+    shared-slice-read-compare
+    sub-compare
+    shared-slice-read-compare-2
+    compare-requires
+    enum-told
+    same-length
+    returns
+    enum-told-2
+    sub-out
+    mul-out-2
+    slice-read-out
+    mul-out-3
+    slice-write-out-2
+    enum-told-3
+    add-period
+    sub-period
+    cast-out
+    mul-out-4
+    slice-write-out-3
+    add-end-2
+    loop-less
+    loop-again
+    same-length-2
+    returns-2)
