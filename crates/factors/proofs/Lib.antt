@@ -3,3 +3,4 @@ pub mod Listing
 pub mod Checked
 pub mod Tabling
 pub mod Written
+pub mod Linking

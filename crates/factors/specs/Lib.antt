@@ -5,4 +5,5 @@ pub mod DuvalSteps
 pub mod DuvalFactorization
 pub mod Room
 pub mod Results
+pub mod Links
 pub mod Answers

@@ -5,4 +5,6 @@
 pub mod factorization;
 mod order;
 mod scan;
+mod width;
 pub mod suffix_table;
+pub mod left_forest;

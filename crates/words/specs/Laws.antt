@@ -17,3 +17,4 @@ pub mod ValidArray
 pub mod Repetition
 pub mod LowestSuffix
 pub mod LongestEnding
+pub mod LeftForest
