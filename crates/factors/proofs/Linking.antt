@@ -8,7 +8,7 @@ use native.Mathlib.Decide.{decLt, ℕ-discrete}
 use lib.ListN.{length, getD, set, length-set}
 use lib.Seq.{getD-set-same, getD-set-other}
 use Rattle.words.specs.Laws.LeftForest.{Uncrossed, FirstCrossing, Nested, LeftRecords, start-uncrossed}
-use Rattle.factors.specs.Links.{startIn, Descends, Linked, Closes}
+use Rattle.factors.specs.Links.{startIn, Descends, Linked, Closes, Linkable, Crossed}
 
 -- A position that a word before e crosses is not uncrossed up to e.
 crossed-differs : (start : ℕ → ℕ) (j d e t : ℕ) → FirstCrossing start j d → d < e → Uncrossed start e t → ¬ (j ≡ t)
@@ -100,3 +100,96 @@ module _ (first before out : List ℕ) (e last t : ℕ) (d : Descends first befo
         done = h .done;
         later = h .later;
       }
+
+-- No word has been read.
+pub crossed-none : (first table : List ℕ) → Crossed first table first table 0 0
+crossed-none first table =
+    record {
+      first-size = refl;
+      past-size = refl;
+      small = omega arith;
+      link = λ i p. absurd (omega arith);
+      here = λ i p. absurd (omega arith);
+      closed = λ j d p q. absurd (omega arith);
+      first-rest = λ t p. refl;
+      past-rest = λ t p. refl;
+    }
+
+-- What holds at each turn of the loop that reads the words.
+pub record Reading (before table first past : List ℕ) (n e last : ℕ) : Type 0 where
+  pub reached : e ≤ n
+  pub crossed : Crossed before table first past e last
+
+-- A word starts before it ends.
+start-at-most : (before table : List ℕ) (n : ℕ) → Linkable before table n → (i : ℕ) → i < n → startIn table i ≤ i
+start-at-most before table n k i l = omega (arith, k .positive i l, k .fits i l)
+
+module _ (before table first past : List ℕ) (n e last : ℕ) (k : Linkable before table n) (w : Crossed before table first past e last) (l : e < n) where
+  -- The entry at e is still there.
+  pub entry-fits : getD past e 0 ≤ e + 1
+  entry-fits = omega (arith, w .past-rest e (omega arith), k .fits e l)
+
+  in-buffer : e < length first
+  in-buffer = omega (arith, w .first-size, k .in-first)
+
+  -- FIRST with the start of the word that ends before e.
+  link-at : (i : ℕ) → i < e → getD (set first e last) (suc i) 0 ≡ startIn table i
+  link-at i p = go (ℕ-discrete (suc i) e)
+    where
+      go : Dec (suc i ≡ e) → getD (set first e last) (suc i) 0 ≡ startIn table i
+      go (yes q) =
+          ap (λ (m : ℕ). getD (set first e last) m 0) q ∙ getD-set-same first e last 0 in-buffer ∙ sym (w .here i q)
+      go (no q) = getD-set-other first e (suc i) last 0 q ∙ w .link i (omega arith)
+
+  pub reading-descends : Descends (set first e last) past e
+  reading-descends =
+      record {
+        small = omega (arith, k .short);
+        in-first = omega (arith, length-set first e last, in-buffer);
+        in-past = omega (arith, w .past-size, k .in-past);
+        down = λ i p. omega (arith, link-at i p, start-at-most before table n k i (omega arith));
+      }
+
+  module _ (v : ℕ) (is : v ≡ e + 1 - getD past e 0) where
+    start-here : startIn table e ≡ v
+    start-here = omega (arith, w .past-rest e (omega arith))
+
+    reading-linked : Linked (startIn table) (set first e last) e v
+    reading-linked =
+        record {
+          below = λ i p. start-at-most before table n k i (omega arith);
+          nested = λ i t p. k .nested i t (omega arith);
+          link = link-at;
+          here = start-here;
+        }
+
+    -- The word that ends at e has been read.
+    pub crossed-step : (past′ : List ℕ) → length past′ ≡ length past →
+        ((start : ℕ → ℕ) → Linked start (set first e last) e v → Closes start past past′ e) →
+        Crossed before table (set first e last) past′ (e + 1) v
+    crossed-step past′ size f =
+        let h : Closes (startIn table) past past′ e = f (startIn table) reading-linked in
+        record {
+          first-size = length-set first e last ∙ w .first-size;
+          past-size = size ∙ w .past-size;
+          small = omega (arith, start-here, start-at-most before table n k e l);
+          link = λ i p. link-at i (omega arith);
+          here =
+              λ i p.
+              let q : e ≡ i = omega arith in
+              subst (λ (m : ℕ). startIn table m ≡ v) q start-here;
+          closed = λ j d p q. close-at h j d p q (ℕ-discrete d e);
+          first-rest = λ t p. getD-set-other first e t last 0 (λ q. omega arith) ∙ w .first-rest t (omega arith);
+          past-rest = λ t p. h .later t (omega arith) ∙ w .past-rest t (omega arith);
+        }
+      where
+        close-at : Closes (startIn table) past past′ e → (j d : ℕ) → d < e + 1 → FirstCrossing (startIn table) j d → Dec (d ≡ e) →
+            getD past′ j 0 ≡ suc d
+        close-at h j d p q (yes r) = h .closed j (subst (λ (m : ℕ). FirstCrossing (startIn table) j m) r q) ∙ ap suc (sym r)
+        close-at h j d p q (no r) = h .done j d (omega arith) q ∙ w .closed j d (omega arith) q
+
+-- All words have been read.
+pub reading-end : (before table first past : List ℕ) (n e last : ℕ) → Reading before table first past n e last → n ≤ e → Crossed before table first past n last
+reading-end before table first past n e last w l =
+    let q : e ≡ n = omega (arith, w .reached) in
+    subst (λ (m : ℕ). Crossed before table first past m last) q (w .crossed)

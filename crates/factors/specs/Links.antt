@@ -31,3 +31,30 @@ pub record Closes (start : ℕ → ℕ) (before after : List ℕ) (e : ℕ) : Ty
   pub closed : (j : ℕ) → FirstCrossing start j e → getD after j 0 ≡ suc e
   pub done : (j d : ℕ) → d < e → FirstCrossing start j d → getD after j 0 ≡ getD before j 0
   pub later : (t : ℕ) → e < t → getD after t 0 ≡ getD before t 0
+
+-- PAST holds a suffix table of n entries, whose words are nested, and both buffers have room for n numbers.
+pub record Linkable (first table : List ℕ) (n : ℕ) : Type 0 where
+  pub short : n ≤ maxLength
+  pub in-first : n ≤ length first
+  pub in-past : n ≤ length table
+  pub positive : (t : ℕ) → t < n → 0 < getD table t 0
+  pub fits : (t : ℕ) → t < n → getD table t 0 ≤ suc t
+  pub nested : Nested (startIn table) n
+
+-- The first e words have been read from the table: FIRST has their starts, one place further on, but for the last, which is `last`; PAST
+-- has the ends at the positions that they cross. The rest of both buffers is as it was.
+pub record Crossed (before table first past : List ℕ) (e last : ℕ) : Type 0 where
+  pub first-size : length first ≡ length before
+  pub past-size : length past ≡ length table
+  pub small : last ≤ e
+  pub link : (i : ℕ) → suc i < e → getD first (suc i) 0 ≡ startIn table i
+  pub here : (i : ℕ) → suc i ≡ e → startIn table i ≡ last
+  pub closed : (j d : ℕ) → d < e → FirstCrossing (startIn table) j d → getD past j 0 ≡ suc d
+  pub first-rest : (t : ℕ) → e ≤ t → getD first t 0 ≡ getD before t 0
+  pub past-rest : (t : ℕ) → e ≤ t → getD past t 0 ≡ getD table t 0
+
+-- In a buffer the positions of 0 to e behind t that no word crosses hold themselves, and those that one crosses, and those behind e, hold what they held.
+pub record Rooted (start : ℕ → ℕ) (before after : List ℕ) (e t : ℕ) : Type 0 where
+  pub own : (j : ℕ) → t < j → j ≤ e → Uncrossed start (suc e) j → getD after j 0 ≡ j
+  pub kept : (j d : ℕ) → d ≤ e → FirstCrossing start j d → getD after j 0 ≡ getD before j 0
+  pub rest : (k : ℕ) → e < k → getD after k 0 ≡ getD before k 0
