@@ -4,3 +4,4 @@ pub mod Checked
 pub mod Tabling
 pub mod Written
 pub mod Linking
+pub mod Rooting

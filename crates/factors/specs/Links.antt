@@ -53,8 +53,8 @@ pub record Crossed (before table first past : List ℕ) (e last : ℕ) : Type 0 
   pub first-rest : (t : ℕ) → e ≤ t → getD first t 0 ≡ getD before t 0
   pub past-rest : (t : ℕ) → e ≤ t → getD past t 0 ≡ getD table t 0
 
--- In a buffer the positions of 0 to e behind t that no word crosses hold themselves, and those that one crosses, and those behind e, hold what they held.
-pub record Rooted (start : ℕ → ℕ) (before after : List ℕ) (e t : ℕ) : Type 0 where
-  pub own : (j : ℕ) → t < j → j ≤ e → Uncrossed start (suc e) j → getD after j 0 ≡ j
+-- In a buffer the positions up to e that no word crosses have got themselves; those that one crosses, and those behind e, keep what they had.
+pub record OwnRoots (start : ℕ → ℕ) (before after : List ℕ) (e : ℕ) : Type 0 where
+  pub own : (j : ℕ) → j ≤ e → Uncrossed start (suc e) j → getD after j 0 ≡ j
   pub kept : (j d : ℕ) → d ≤ e → FirstCrossing start j d → getD after j 0 ≡ getD before j 0
   pub rest : (k : ℕ) → e < k → getD after k 0 ≡ getD before k 0

@@ -4,7 +4,7 @@ use super::width::wide;
 ghost use mathlib.Core.Path.{_≡_};
 ghost use Prim.Native.Nat.{ℕ, _≤_};
 ghost use lib.ListN.{length};
-ghost use Rattle.factors.specs.Links.{Descends, Linked, Closes, Linkable, Crossed};
+ghost use Rattle.factors.specs.Links.{Descends, Linked, Closes, Linkable, Crossed, OwnRoots};
 
 // The word that ends at `e` starts at `last`: from `e` down the links of FIRST, each position above
 // `last` gets its end in PAST.
@@ -34,4 +34,22 @@ fn link(first: &mut [u32], past: &mut [u32], n: usize) -> usize
         e += 1;
     }
     last
+}
+
+// From the start of the last word down the links of FIRST: each position that no word crosses, the
+// start of a factor, holds itself in both buffers.
+fn mark_roots(first: &mut [u32], past: &mut [u32], last: usize)
+    requires { ⌜ Descends (now first) (now past) last ⌝ }
+    ensures { λ r. ⌜ ((start : ℕ → ℕ) (e : ℕ) → Linked start (now (first .entry)) e last → OwnRoots start (now (first .entry)) (now (first .exit)) e) ⌝ }
+    ensures { λ r. ⌜ ((start : ℕ → ℕ) (e : ℕ) → Linked start (now (first .entry)) e last → OwnRoots start (now (past .entry)) (now (past .exit)) e) ⌝ }
+{
+    let mut t = last;
+    while 0 < t {
+        let next = wide(first[t]);
+        first[t] = t as u32;
+        past[t] = t as u32;
+        t = next;
+    }
+    first[0] = 0;
+    past[0] = 0;
 }
