@@ -5,3 +5,4 @@ pub mod Tabling
 pub mod Written
 pub mod Linking
 pub mod Rooting
+pub mod Growing

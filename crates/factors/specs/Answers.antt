@@ -17,3 +17,8 @@ factorizationAnswer x given =
 -- The Lyndon suffix table of x, in a buffer of `given` places: the count is the number of letters.
 abbrev pub suffixTableAnswer : List ℕ → ℕ → Answer
 suffixTableAnswer x given = lengthChecked (length x) (outputChecked (length x) given (acceptedWith (length x)))
+
+-- The left forest of x, in buffers of `in-first` and `in-past` places: refused where either is short; the count is the number of letters.
+abbrev pub leftForestAnswer : List ℕ → ℕ → ℕ → Answer
+leftForestAnswer x in-first in-past =
+    lengthChecked (length x) (outputChecked (length x) in-first (outputChecked (length x) in-past (acceptedWith (length x))))
