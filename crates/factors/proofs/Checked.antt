@@ -1,15 +1,14 @@
 -- The answers and the buffers' contents of a call, check by check.
 -- Assumes nothing.
-use mathlib.Core.Path.{_≡_, refl, sym, ap, _∙_}
+use mathlib.Core.Path.{_≡_, sym, ap, _∙_}
 use mathlib.Core.List.{List}
 use Prim.Native.Nat.{ℕ, _<_, _≤_}
-use lib.Dec.{ltb, eqb}
 use borrow.Author.Tests.{lt-ltb, le-ltb, eq-eqb, ne-eqb}
 use Rattle.answer.specs.declared.Answer.{Answer}
 use Rattle.answer.specs.declared.Reason.{Reason}
 use Rattle.answer.specs.declared.Reason.the-variants.{EmptyInput, TooLong, ShortOutput}
 use Rattle.answer.specs.Answers.{acceptedWith, refusedFor}
-use Rattle.answer.specs.Checks.{pickAnswer, lengthChecked, outputChecked, written, contentAfter}
+use Rattle.answer.specs.Checks.{lengthChecked, outputChecked, written, contentAfter}
 use Rattle.answer.specs.Limits.{maxLength}
 
 -- Refusal 1.

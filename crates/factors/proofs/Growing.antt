@@ -1,20 +1,18 @@
 -- The three passes of the left forest, one after the other, write the left forest.
 -- Assumes nothing.
-use mathlib.Core.Path.{_≡_, refl, sym, ap, subst, _∙_}
+use mathlib.Core.Path.{_≡_, sym, ap, subst, _∙_}
 use mathlib.Core.List.{List}
-use Prim.Native.Nat.{ℕ, zero, suc, _+_, _-_, _<_, _≤_}
+use Prim.Native.Nat.{ℕ, zero, suc, _-_, _<_, _≤_}
 use native.Mathlib.Omega.{arith}
 use lib.ListN.{length, getD, take}
 use lib.Seq.{getD-take, length-take-le}
-use Rattle.words.specs.SuffixTable.{LongestTo}
 use Rattle.words.specs.LeftForest.{IsLeftForest}
 use Rattle.words.specs.Compute.Factorization.{factorizationOf, factorizationOf-right}
 use Rattle.words.specs.Compute.Forest.{leftFirstOf, leftPastOf, leftForestOf-right}
 use Rattle.words.specs.Laws.SpanLyndon.{letters}
 use Rattle.words.specs.Laws.LongestEnding.{LongestEnding, longest-ending}
-use Rattle.words.specs.Laws.LeftForest.{Uncrossed, FirstCrossing, LeftRecords, longest-nested, records-left-forest}
+use Rattle.words.specs.Laws.LeftForest.{Uncrossed, LeftRecords, longest-nested, records-left-forest}
 use Rattle.words.specs.Laws.ForestUnique.{left-forest-unique}
-use Rattle.answer.specs.Checks.{written}
 use Rattle.factors.specs.Default.{defaultOrder, decided-default}
 use Rattle.factors.specs.Room.{Room}
 use Rattle.factors.specs.Results.{Tabled, Grown}

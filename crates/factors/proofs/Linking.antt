@@ -7,7 +7,7 @@ use native.Mathlib.Omega.{arith}
 use native.Mathlib.Decide.{decLt, ℕ-discrete}
 use lib.ListN.{length, getD, set, length-set}
 use lib.Seq.{getD-set-same, getD-set-other}
-use Rattle.words.specs.Laws.LeftForest.{Uncrossed, FirstCrossing, Nested, LeftRecords, start-uncrossed}
+use Rattle.words.specs.Laws.LeftForest.{Uncrossed, FirstCrossing, start-uncrossed}
 use Rattle.factors.specs.Links.{startIn, Descends, Linked, Closes, Linkable, Crossed}
 
 -- A position that a word before e crosses is not uncrossed up to e.

@@ -2,12 +2,12 @@
 -- Assumes nothing.
 use mathlib.Core.Path.{_≡_, refl, sym, ap, subst, _∙_}
 use mathlib.Core.List.{List}
-use Prim.Native.Nat.{ℕ, zero, suc, _+_, _-_, _<_, _≤_}
+use Prim.Native.Nat.{ℕ, zero, suc, _-_, _<_, _≤_}
 use native.Mathlib.Omega.{arith}
 use native.Mathlib.Decide.{decLt, ℕ-discrete}
 use lib.ListN.{length, getD, set, length-set}
 use lib.Seq.{getD-set-same, getD-set-other}
-use Rattle.words.specs.Laws.LeftForest.{Uncrossed, FirstCrossing, Nested, start-uncrossed}
+use Rattle.words.specs.Laws.LeftForest.{Uncrossed, FirstCrossing, start-uncrossed}
 use Rattle.factors.specs.Links.{Descends, Linked, OwnRoots}
 
 -- Marking has come down to t in a buffer: the positions up to e behind t that no word crosses hold themselves.

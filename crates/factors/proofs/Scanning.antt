@@ -1,14 +1,13 @@
 -- What holds at each turn of the scan's loop, and what the answer of a comparison says.
 -- Assumes nothing.
-use mathlib.Core.Path.{_≡_, refl, sym, ap, subst, _∙_}
+use mathlib.Core.Path.{_≡_, refl, sym, _∙_}
 use mathlib.Core.List.{List}
 use Prim.Native.Nat.{ℕ, zero, suc, _+_, _-_, _<_, _≤_}
 use native.Mathlib.Omega.{arith}
-use lib.ListN.{length, getD}
+use lib.ListN.{length}
 use Rattle.words.specs.Letters as words
 use Rattle.factors.specs.declared.order.Comparison.{Comparison}
 use Rattle.factors.specs.declared.order.Comparison.the-variants.{Below, Same, Above}
-use Rattle.factors.specs.declared.scan.Stretch.{Stretch}
 use Rattle.factors.specs.Compared.{comparisonOf}
 use Rattle.factors.specs.Default.{decided-default}
 use Rattle.factors.specs.Duval.{scanFrom, scanOf}

@@ -1,11 +1,11 @@
 -- What holds at each turn of the loop that fills the suffix table during a scan.
 -- Assumes nothing.
-use mathlib.Core.Path.{_≡_, refl, sym, ap, subst, _∙_}
-use mathlib.Core.Logic.{_⊎_, inl, inr}
+use mathlib.Core.Path.{_≡_, refl, sym, subst, _∙_}
+use mathlib.Core.Logic.{inl, inr}
 use mathlib.Core.List.{List}
 use Prim.Native.Nat.{ℕ, zero, suc, _+_, _-_, _<_, _≤_}
 use native.Mathlib.Omega.{arith}
-use native.Mathlib.Decide.{decLt, ℕ-discrete}
+use native.Mathlib.Decide.{ℕ-discrete}
 use lib.ListN.{length, getD, set, length-set}
 use lib.Seq.{getD-set-same, getD-set-other}
 use Rattle.words.specs.Letters as words
@@ -20,7 +20,7 @@ use Rattle.factors.specs.declared.scan.Stretch.{Stretch}
 use Rattle.factors.specs.Compared.{comparisonOf}
 use Rattle.factors.specs.Default.{defaultOrder, decided-default}
 use Rattle.factors.specs.DuvalSteps.{Bounded, answerAt}
-use Rattle.factors.specs.DuvalFactorization.{Stopped, stopped-next, stopped-rest}
+use Rattle.factors.specs.DuvalFactorization.{stopped-next, stopped-rest}
 use Rattle.factors.specs.Room.{Room}
 use Rattle.factors.specs.Results.{Tabled, Startable, Covered, Filled}
 use Rattle.factors.proofs.Scanning.{is-below, is-same, is-above}

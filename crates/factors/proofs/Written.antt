@@ -1,13 +1,13 @@
 -- A buffer into which a list was written from its start, place by place.
 -- Assumes nothing.
-use mathlib.Core.Path.{_≡_, refl, sym, ap, subst, _∙_}
+use mathlib.Core.Path.{_≡_, sym, ap, _∙_}
 use mathlib.Core.List.{List, _++_}
 use Prim.Native.Nat.{ℕ, _+_, _-_, _<_, _≤_}
 use native.Mathlib.Omega.{arith}
 use native.Mathlib.Decide.{decLt}
 use lib.ListN.{length, getD, drop, length-append, length-drop, List·getD-append}
 use lib.Seq.{ext-getD, getD-append-add, getD-drop}
-use Rattle.words.specs.SuffixTable.{LongestTo, IsSuffixTable}
+use Rattle.words.specs.SuffixTable.{IsSuffixTable}
 use Rattle.words.specs.Compute.SuffixTable.{suffixTableOf, suffixTableOf-right}
 use Rattle.words.specs.Laws.Unique.{longest-to-unique}
 use Rattle.answer.specs.Checks.{written}

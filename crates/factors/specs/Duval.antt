@@ -1,11 +1,11 @@
 -- Duval's scan, step by step, and the list of factor starts that it gives.
 -- Assumes nothing.
-use mathlib.Core.Bool.{Bool, true, false}
+use mathlib.Core.Bool.{true, false}
 use mathlib.Core.List.{List, [], _∷_}
 use Prim.Native.Nat.{ℕ, zero, suc, _+_, _-_}
 use lib.Dec.{ltb}
 use lib.ListN.{length, getD}
-use Rattle.words.specs.Letters.{Letters, Decided, Comparison, below, same, above}
+use Rattle.words.specs.Letters.{Letters, Decided, below, same, above}
 use Rattle.factors.specs.declared.scan.Stretch.{Stretch}
 
 -- The scan that began at `start` is at position j, and what it has read repeats its first p letters. A step compares the letter at j with

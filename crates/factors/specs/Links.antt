@@ -5,7 +5,7 @@ use mathlib.Core.Path.{_≡_}
 use mathlib.Core.List.{List}
 use Prim.Native.Nat.{ℕ, suc, _+_, _-_, _<_, _≤_}
 use lib.ListN.{length, getD}
-use Rattle.words.specs.Laws.LeftForest.{Uncrossed, FirstCrossing, Nested, LeftRecords}
+use Rattle.words.specs.Laws.LeftForest.{Uncrossed, FirstCrossing, Nested}
 use Rattle.answer.specs.Limits.{maxLength}
 
 -- The starts that a suffix table stands for.

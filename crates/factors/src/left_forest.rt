@@ -4,7 +4,6 @@ use super::width::wide;
 use answer::Answer;
 use answer::Reason;
 use answer::limits;
-
 ghost use mathlib.Core.Path.{_≡_};
 ghost use Prim.Native.Nat.{ℕ, _<_};
 ghost use lib.ListN.{length};

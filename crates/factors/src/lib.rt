@@ -3,8 +3,8 @@
 //
 // Contracts cite `specs/Answers.antt` and the definitions of `words`. Nothing is assumed.
 pub mod factorization;
+pub mod left_forest;
 mod order;
 mod scan;
-mod width;
 pub mod suffix_table;
-pub mod left_forest;
+mod width;

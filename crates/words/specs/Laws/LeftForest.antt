@@ -1,7 +1,7 @@
 -- The left forest from the longest Lyndon words by their ends: before j the cut is of the span from the start of the longest Lyndon word
 -- that ends there, up to the end of the first longest one behind j that starts before j.
 -- Assumes nothing.
-use mathlib.Core.Path.{_≡_, refl, sym, ap, subst, _∙_}
+use mathlib.Core.Path.{_≡_, refl, sym, subst, _∙_}
 use mathlib.Core.List.{List}
 use Prim.Native.Nat.{ℕ, zero, suc, _+_, _-_, _<_, _≤_}
 use native.Mathlib.Omega.{arith}

@@ -1,14 +1,14 @@
 -- The longest Lyndon word that ends at a position, by positions: inside a repetition it is that of the copy before.
 -- Assumes nothing.
-use mathlib.Core.Path.{_≡_, refl, sym, ap, subst, _∙_}
+use mathlib.Core.Path.{_≡_, sym, ap, _∙_}
 use mathlib.Core.List.{List}
 use Prim.Native.Nat.{ℕ, zero, suc, _+_, _-_, _<_, _≤_}
 use native.Mathlib.Omega.{arith}
 use native.Mathlib.Decide.{decLt}
 use lib.ListN.{length}
-use Rattle.words.specs.Letters.{Letters, Smaller}
+use Rattle.words.specs.Letters.{Letters}
 use Rattle.words.specs.SuffixTable.{LongestTo}
-use Rattle.words.specs.Laws.Position.{Agree, BelowWithin, SpanLyndon}
+use Rattle.words.specs.Laws.Position.{BelowWithin, SpanLyndon}
 use Rattle.words.specs.Laws.SpanLyndon.{letters, lyndon-span, span-lyndon}
 use Rattle.words.specs.Laws.NextSmaller.{below-trans}
 use Rattle.words.specs.Laws.LowestSuffix.{Lowest, lowest-uncrossed}

@@ -8,7 +8,7 @@ use native.Mathlib.Decide.{decLt}
 use Rattle.words.specs.Letters.{Letters, Smaller}
 use Rattle.words.specs.Laws.Letters.{smaller-asym, smaller-trans}
 use Rattle.words.specs.Laws.Position.{Agree, BelowWithin, SpanLyndon}
-use Rattle.words.specs.Laws.SuffixOrder.{SuffixLess, ends, parts, NextSmaller, agree-sym}
+use Rattle.words.specs.Laws.SuffixOrder.{SuffixLess, ends, parts, NextSmaller}
 use Rattle.words.specs.Laws.NextSmaller.{lyndon-next}
 
 -- The span from h to e is the Lyndon word from h to h + p, repeated: letters p apart are the same. The last copy may be cut short.

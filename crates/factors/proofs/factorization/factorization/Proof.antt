@@ -1,69 +1,52 @@
 -- `factors::factorization::factorization` meets its contract: each return is a row of the table of checks.
 -- Assumes nothing.
-use mathlib.Core.Path.{_≡_, sym, ap, _∙_}
+use mathlib.Core.Path.{ap, _∙_}
 use native.Mathlib.Omega.{arith}
 use borrow.Author.Needs.{needs}
 use Rattle.answer.specs.Answers.{acceptedWith}
 use Rattle.factors.proofs.Checked.{empty-refused, long-refused, length-passed, short-refused, output-passed, refused-keeps, accepted-writes}
 use Rattle.factors.proofs.factorization.factorization.Statement.{statement}
 use Rattle.factors.proofs.factorization.factorization.Tie as tie
-use Rattle.factors.proofs.factorization.factorization.Reads as reads
-use Rattle.factors.proofs.factorization.factorization.Lts as lts
-use Rattle.answer.proofs.accepted.Reads as accepted-reads
-use Rattle.answer.proofs.limits.max_length.Reads as max-length-reads
-use Rattle.answer.proofs.refused.Reads as refused-reads
-use Rattle.factors.proofs.factorization.list_factors.Reads as list-factors-reads
 
--- src/factorization.rt:43:9
 refused-requires : tie.Need-refused-requires
 refused-requires c κs = search needs
 
--- src/factorization.rt:43:9
 returns : tie.Need-returns
 returns c = (
   c .refused .ensures ∙ empty-refused _ _ (c .before .if1 .taken),
   refused-keeps _ _ _ _ _ (c .refused .ensures),
 )
 
--- src/factorization.rt:45:12
 max-length-requires : tie.Need-max-length-requires
 max-length-requires c κs = search needs
 
--- src/factorization.rt:46:9
 refused-requires-2 : tie.Need-refused-requires-2
 refused-requires-2 c κs = search needs
 
--- src/factorization.rt:46:9
 returns-2 : tie.Need-returns-2
 returns-2 c = (
   c .refused2 .ensures ∙ long-refused _ _ (c .before .before .before .if1 .left) (omega (arith, c .before .before .max-length .ensures)),
   refused-keeps _ _ _ _ _ (c .refused2 .ensures),
 )
 
--- src/factorization.rt:49:9
 refused-requires-3 : tie.Need-refused-requires-3
 refused-requires-3 c κs = search needs
 
--- src/factorization.rt:49:9
 returns-3 : tie.Need-returns-3
 returns-3 c = (
   c .refused3 .ensures ∙ short-refused _ _ _ (c .before .if3 .taken) ∙ length-passed _ _ (c .before .before .before .before .if1 .left) (omega (arith, c .before .before .before .max-length .ensures)),
   refused-keeps _ _ _ _ _ (c .refused3 .ensures),
 )
 
--- src/factorization.rt:51:9
 list-factors-requires : tie.Need-list-factors-requires
 list-factors-requires c κs = search needs
 
--- src/factorization.rt:52:5
 accepted-requires : tie.Need-accepted-requires
 accepted-requires c κs = search needs
 
--- src/factorization.rt:37:1
 same-length : tie.Need-same-length
 same-length c = search needs
 
--- src/factorization.rt:37:1
 returns-4 : tie.Need-returns-4
 returns-4 c = (
   c .accepted .ensures ∙ ap acceptedWith (c .before .before .before .list-factors .ensures .counted) ∙ output-passed _ _ _ (c .before .before .before .before .before .if3 .left) ∙ length-passed _ _ (c .before .before .before .before .before .before .before .before .if1 .left) (omega (arith, c .before .before .before .before .before .before .before .max-length .ensures)),

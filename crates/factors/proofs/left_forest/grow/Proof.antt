@@ -1,39 +1,27 @@
 -- `factors::left_forest::grow` meets its contract: what each pass leaves is what the next one asks for.
 -- Assumes nothing.
-use mathlib.Core.Path.{_∙_}
 use Rattle.factors.proofs.Growing.{table-linkable, crossed-descends, forest-written}
 use borrow.Author.Needs.{needs}
 use Rattle.factors.proofs.left_forest.grow.Statement.{statement}
 use Rattle.factors.proofs.left_forest.grow.Tie as tie
-use Rattle.factors.proofs.left_forest.grow.Reads as reads
-use Rattle.factors.proofs.left_forest.grow.Lts as lts
-use Rattle.factors.proofs.left_forest.link.Reads as link-reads
-use Rattle.factors.proofs.left_forest.mark_roots.Reads as mark-roots-reads
-use Rattle.factors.proofs.suffix_table.fill_table.Reads as fill-table-reads
 
--- src/left_forest.rt:75:5
 fill-table-requires : tie.Need-fill-table-requires
 fill-table-requires c κs = search needs
 
--- src/left_forest.rt:76:9
 link-requires : tie.Need-link-requires
 link-requires c κs = table-linkable _ _ _ _ (c .before .before .before .before .before .before .before .before .before .pre .1 .0) (c .before .before .before .before .before .before .before .before .before .pre .1 .1) (c .before .before .before .before .fill-table .ensures)
 
--- src/left_forest.rt:77:5
 mark-roots-requires : tie.Need-mark-roots-requires
 mark-roots-requires c κs = crossed-descends _ _ _ _ (c .before .before .before .before .before .before .before .before .before .before .before .before .before .before .before .before .pre .1 .0) (c .before .before .before .before .before .before .before .before .before .before .before .before .before .before .before .before .pre .1 .1) (c .before .before .before .before .before .before .before .before .before .before .before .fill-table .ensures) _ _ _ (c .before .before .before .before .before .before .link .ensures) (c .before .before .before .before .before .before .before .before .before .before .before .before .before .before .before .before .pre .0)
 
--- src/left_forest.rt:69:1
 same-length : tie.Need-same-length
 same-length c = search needs
 
--- src/left_forest.rt:69:1
 same-length-2 : tie.Need-same-length-2
 same-length-2 c = search needs
 
--- src/left_forest.rt:69:1
 returns : tie.Need-returns
-returns c = 
+returns c =
     forest-written _ _ _ _ (c .before .before .before .before .before .before .before .before .before .before .before .before .before .before .before .before .before .before .before .before .before .pre .1 .0) (c .before .before .before .before .before .before .before .before .before .before .before .before .before .before .before .before .before .before .before .before .before .pre .1 .1) (c .before .before .before .before .before .before .before .before .before .before .before .before .before .before .before .before .fill-table .ensures) _ _ _
     (c .before .before .before .before .before .before .before .before .before .before .before .link .ensures) (c .before .before .before .before .before .before .before .before .before .before .before .before .before .before .before .before .before .before .before .before .before .pre .0) _ _ (c .before .before .before .before .mark-roots .kept .0) (c .before .before .before .before .mark-roots .kept .1 .0)
     (c .before .before .before .before .mark-roots .ensures .0) (c .before .before .before .before .mark-roots .ensures .1)

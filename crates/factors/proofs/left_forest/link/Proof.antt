@@ -1,17 +1,12 @@
 -- `factors::left_forest::link` meets its contract: each turn reads one word of the table.
 -- Assumes nothing.
-use mathlib.Core.Path.{ap, sym, _∙_}
+use mathlib.Core.Path.{ap}
 use Prim.Native.Nat.{ℕ, _+_, _-_}
 use native.Mathlib.Omega.{arith}
 use borrow.Author.Needs.{needs}
-use lib.ListN.{length}
 use Rattle.factors.proofs.Linking.{Reading, crossed-none, entry-fits, reading-descends, crossed-step, reading-end}
 use Rattle.factors.proofs.left_forest.link.Statement.{statement}
 use Rattle.factors.proofs.left_forest.link.Tie as tie
-use Rattle.factors.proofs.left_forest.link.Reads as reads
-use Rattle.factors.proofs.left_forest.link.Lts as lts
-use Rattle.factors.proofs.left_forest.close.Reads as close-reads
-use Rattle.factors.proofs.width.wide.Reads as wide-reads
 
 abbrev Inv-loop : tie.InvT-loop
 Inv-loop first₀ past₀ n last₀ e₀ first past last e = Reading first₀ past₀ first past n e last
@@ -19,57 +14,44 @@ Inv-loop first₀ past₀ n last₀ e₀ first past last e = Reading first₀ pa
 abbrev μ-loop : tie.MeasureT-loop
 μ-loop first₀ past₀ n last₀ e₀ first past last e = n - e
 
--- src/left_forest.rt:30:5
 loop-holds : tie.Need-loop-holds Inv-loop μ-loop
 loop-holds c = record { reached = omega arith; crossed = crossed-none _ _ }
 
--- src/left_forest.rt:31:20
 cast-first : tie.Need-cast-first Inv-loop μ-loop
 cast-first c = omega arith
 
--- src/left_forest.rt:31:9
 mul-first : tie.Need-mul-first Inv-loop μ-loop
 mul-first c = omega arith
 
--- src/left_forest.rt:31:9
 slice-write-first : tie.Need-slice-write-first Inv-loop μ-loop
 slice-write-first c = omega arith
 
--- src/left_forest.rt:32:16
 add-last : tie.Need-add-last Inv-loop μ-loop
 add-last c = omega arith
 
--- src/left_forest.rt:32:29
 mul-wide : tie.Need-mul-wide Inv-loop μ-loop
 mul-wide c = omega arith
 
--- src/left_forest.rt:32:29
 slice-read-wide : tie.Need-slice-read-wide Inv-loop μ-loop
 slice-read-wide c = omega arith
 
--- src/left_forest.rt:32:24
 wide-requires : tie.Need-wide-requires Inv-loop μ-loop
 wide-requires c κs = search needs
 
--- src/left_forest.rt:32:16
 sub-last : tie.Need-sub-last Inv-loop μ-loop
 sub-last c = omega (arith, c .wide .ensures, entry-fits _ _ _ _ _ _ _ (c .before .before .before .before .before .before .pre) (c .before .before .before .loop .inv .crossed) (c .before .before .loop-test .taken))
 
--- src/left_forest.rt:33:9
 close-requires : tie.Need-close-requires Inv-loop μ-loop
 close-requires c κs = reading-descends _ _ _ _ _ _ _ (c .before .before .before .before .before .before .before .before .pre) (c .before .before .before .before .before .loop .inv .crossed) (c .before .before .before .before .loop-test .taken)
 
--- src/left_forest.rt:34:9
 add-e : tie.Need-add-e Inv-loop μ-loop
 add-e c = omega arith
 
--- src/left_forest.rt:30:5
 loop-less : tie.Need-loop-less Inv-loop μ-loop
 loop-less c = omega arith
 
--- src/left_forest.rt:30:5
 loop-again : tie.Need-loop-again Inv-loop μ-loop
-loop-again c = 
+loop-again c =
     record {
       reached = omega arith;
       crossed =
@@ -77,15 +59,12 @@ loop-again c =
           (ap (λ (v : ℕ). c .before .before .before .before .before .before .before .before .loop .e + 1 - v) (c .before .before .before .before .before .wide .ensures)) _ (c .before .before .close .kept .1 .0) (c .before .before .close .ensures);
     }
 
--- src/left_forest.rt:24:1
 same-length : tie.Need-same-length Inv-loop μ-loop
 same-length c = c .before .loop .inv .crossed .first-size
 
--- src/left_forest.rt:24:1
 same-length-2 : tie.Need-same-length-2 Inv-loop μ-loop
 same-length-2 c = c .before .loop .inv .crossed .past-size
 
--- src/left_forest.rt:24:1
 returns : tie.Need-returns Inv-loop μ-loop
 returns c = reading-end _ _ _ _ _ _ _ (c .before .loop .inv) (c .loop-test .left)
 

@@ -1,15 +1,11 @@
 -- `factors::left_forest::mark_roots` meets its contract: each turn marks one start of a factor and follows its link.
 -- Assumes nothing.
-use mathlib.Core.Path.{_∙_}
 use native.Mathlib.Omega.{arith}
 use borrow.Author.Needs.{needs}
 use lib.ListN.{length-set}
 use Rattle.factors.proofs.Rooting.{Rooting, rooting-start, rooting-falls, rooting-step, marking-end}
 use Rattle.factors.proofs.left_forest.mark_roots.Statement.{statement}
 use Rattle.factors.proofs.left_forest.mark_roots.Tie as tie
-use Rattle.factors.proofs.left_forest.mark_roots.Reads as reads
-use Rattle.factors.proofs.left_forest.mark_roots.Lts as lts
-use Rattle.factors.proofs.width.wide.Reads as wide-reads
 
 abbrev Inv-loop : tie.InvT-loop
 Inv-loop first₀ past₀ last t₀ first past t = Rooting first₀ past₀ first past last t
@@ -17,71 +13,54 @@ Inv-loop first₀ past₀ last t₀ first past t = Rooting first₀ past₀ firs
 abbrev μ-loop : tie.MeasureT-loop
 μ-loop first₀ past₀ last t₀ first past t = t
 
--- src/left_forest.rt:47:5
 loop-holds : tie.Need-loop-holds Inv-loop μ-loop
 loop-holds c = rooting-start _ _ _
 
--- src/left_forest.rt:48:25
 mul-wide : tie.Need-mul-wide Inv-loop μ-loop
 mul-wide c = omega arith
 
--- src/left_forest.rt:48:25
 slice-read-wide : tie.Need-slice-read-wide Inv-loop μ-loop
 slice-read-wide c = omega arith
 
--- src/left_forest.rt:48:13
 wide-requires : tie.Need-wide-requires Inv-loop μ-loop
 wide-requires c κs = search needs
 
--- src/left_forest.rt:49:20
 cast-first : tie.Need-cast-first Inv-loop μ-loop
 cast-first c = omega arith
 
--- src/left_forest.rt:49:9
 mul-first : tie.Need-mul-first Inv-loop μ-loop
 mul-first c = omega arith
 
--- src/left_forest.rt:49:9
 slice-write-first : tie.Need-slice-write-first Inv-loop μ-loop
 slice-write-first c = omega arith
 
--- src/left_forest.rt:50:19
 cast-past : tie.Need-cast-past Inv-loop μ-loop
 cast-past c = omega arith
 
--- src/left_forest.rt:50:9
 mul-past : tie.Need-mul-past Inv-loop μ-loop
 mul-past c = omega arith
 
--- src/left_forest.rt:50:9
 slice-write-past : tie.Need-slice-write-past Inv-loop μ-loop
 slice-write-past c = omega arith
 
--- src/left_forest.rt:47:5
 loop-less : tie.Need-loop-less Inv-loop μ-loop
 loop-less c = omega (arith, c .wide .ensures, rooting-falls _ _ _ _ _ _ (c .before .before .before .before .before .before .pre) (c .before .before .before .loop .inv) (c .before .before .loop-test .taken))
 
--- src/left_forest.rt:47:5
 loop-again : tie.Need-loop-again Inv-loop μ-loop
 loop-again c = rooting-step _ _ _ _ _ _ (c .before .before .before .before .before .before .pre) (c .before .before .before .loop .inv) _ (c .before .before .loop-test .taken) (c .wide .ensures)
 
--- src/left_forest.rt:53:5
 slice-write-first-2 : tie.Need-slice-write-first-2 Inv-loop μ-loop
 slice-write-first-2 c = omega arith
 
--- src/left_forest.rt:54:5
 slice-write-past-2 : tie.Need-slice-write-past-2 Inv-loop μ-loop
 slice-write-past-2 c = omega arith
 
--- src/left_forest.rt:41:1
 same-length : tie.Need-same-length Inv-loop μ-loop
 same-length c = simp length-set (c .before .loop .inv .in-first .size)
 
--- src/left_forest.rt:41:1
 same-length-2 : tie.Need-same-length-2 Inv-loop μ-loop
 same-length-2 c = simp length-set (c .before .loop .inv .in-past .size)
 
--- src/left_forest.rt:41:1
 returns : tie.Need-returns Inv-loop μ-loop
 returns c = (
   marking-end _ _ _ _ _ (c .before .loop .inv .in-first) (c .loop-test .left) (omega (arith, c .before .loop .inv .in-first .size)),

@@ -3,8 +3,6 @@
 use borrow.Author.Tests.{lt-ltb, le-ltb, eq-eqb, ne-eqb}
 use Rattle.factors.proofs.order.compare.Statement.{statement}
 use Rattle.factors.proofs.order.compare.Tie as tie
-use Rattle.factors.proofs.order.compare.Reads as reads
-use Rattle.factors.proofs.order.compare.Lts as lts
 
 returns : tie.Need-returns
 returns c = simp (lt-ltb _ _ (c .if1 .taken))

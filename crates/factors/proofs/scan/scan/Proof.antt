@@ -8,9 +8,6 @@ use lib.ListN.{length}
 use Rattle.factors.proofs.Scanning.{Scanning, scanning-start, scanning-below, scanning-same, scanning-above, scanning-end}
 use Rattle.factors.proofs.scan.scan.Statement.{statement}
 use Rattle.factors.proofs.scan.scan.Tie as tie
-use Rattle.factors.proofs.scan.scan.Reads as reads
-use Rattle.factors.proofs.scan.scan.Lts as lts
-use Rattle.factors.proofs.order.compare.Reads as compare-reads
 
 abbrev Inv-loop : tie.InvT-loop
 Inv-loop text start period₀ end₀ period end = Scanning text start period end
@@ -18,35 +15,27 @@ Inv-loop text start period₀ end₀ period end = Scanning text start period end
 abbrev μ-loop : tie.MeasureT-loop
 μ-loop text start period₀ end₀ period end = length text - end
 
--- src/scan.rt:23:19
 add-end : tie.Need-add-end Inv-loop μ-loop
 add-end c = omega arith
 
--- src/scan.rt:24:5
 loop-holds : tie.Need-loop-holds Inv-loop μ-loop
 loop-holds c = scanning-start _ _ (c .before .pre)
 
--- src/scan.rt:25:25
 shared-slice-read-compare : tie.Need-shared-slice-read-compare Inv-loop μ-loop
 shared-slice-read-compare c = omega arith
 
--- src/scan.rt:25:41
 sub-compare : tie.Need-sub-compare Inv-loop μ-loop
 sub-compare c = omega arith
 
--- src/scan.rt:25:36
 shared-slice-read-compare-2 : tie.Need-shared-slice-read-compare-2 Inv-loop μ-loop
 shared-slice-read-compare-2 c = omega arith
 
--- src/scan.rt:25:13
 compare-requires : tie.Need-compare-requires Inv-loop μ-loop
 compare-requires c κs = search needs
 
--- src/scan.rt:28:17
 enum-told : tie.Need-enum-told Inv-loop μ-loop
 enum-told c = search needs
 
--- src/scan.rt:28:17
 returns : tie.Need-returns Inv-loop μ-loop
 returns c =
     scanning-below _ _ _ _ (c .before .before .before .before .before .before .loop .inv) (c .before .before .before .before .before .loop-test .taken)
@@ -55,27 +44,21 @@ returns c =
 enum-told-2 : tie.Need-enum-told-2 Inv-loop μ-loop
 enum-told-2 c = search needs
 
--- src/scan.rt:32:26
 enum-told-3 : tie.Need-enum-told-3 Inv-loop μ-loop
 enum-told-3 c = search needs
 
--- src/scan.rt:32:26
 add-period : tie.Need-add-period Inv-loop μ-loop
 add-period c = omega arith
 
--- src/scan.rt:32:26
 sub-period : tie.Need-sub-period Inv-loop μ-loop
 sub-period c = omega arith
 
--- src/scan.rt:35:9
 add-end-2 : tie.Need-add-end-2 Inv-loop μ-loop
 add-end-2 c = omega arith
 
--- src/scan.rt:24:5
 loop-less : tie.Need-loop-less Inv-loop μ-loop
 loop-less c = omega arith
 
--- src/scan.rt:24:5
 loop-again : tie.Need-loop-again Inv-loop μ-loop
 loop-again c =
     ⊎-elim
@@ -89,7 +72,6 @@ loop-again c =
     (c .before .compare .result) (c .before .compare .ensures) (w .1 .given .1)))
     (c .match .came)
 
--- src/scan.rt:18:1
 returns-2 : tie.Need-returns-2 Inv-loop μ-loop
 returns-2 c = scanning-end _ _ _ _ (c .before .loop .inv) (c .loop-test .left)
 

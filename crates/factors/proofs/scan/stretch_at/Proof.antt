@@ -1,28 +1,21 @@
 -- `factors::scan::stretch_at` meets its contract: the test is the definition's.
 -- Assumes nothing.
-use mathlib.Core.Path.{_≡_, _∙_, sym}
+use mathlib.Core.Path.{_∙_, sym}
 use borrow.Author.Needs.{needs}
 use borrow.Author.Tests.{lt-ltb, le-ltb}
 use Rattle.factors.specs.Duval.{stretchAt}
 use Rattle.factors.proofs.scan.stretch_at.Statement.{statement}
 use Rattle.factors.proofs.scan.stretch_at.Tie as tie
-use Rattle.factors.proofs.scan.stretch_at.Reads as reads
-use Rattle.factors.proofs.scan.stretch_at.Lts as lts
-use Rattle.factors.proofs.scan.scan.Reads as scan-reads
 
--- src/scan.rt:47:16
 add-if1 : tie.Need-add-if1
 add-if1 c = search needs
 
--- src/scan.rt:48:9
 scan-requires : tie.Need-scan-requires
 scan-requires c κs = search needs
 
--- src/scan.rt:42:1
 returns : tie.Need-returns
 returns c = c .scan .ensures ∙ sym (rw (stretchAt, lt-ltb _ _ (c .before .if1 .taken)))
 
--- src/scan.rt:42:1
 returns-2 : tie.Need-returns-2
 returns-2 c = sym (rw (stretchAt, le-ltb _ _ (c .if1 .left)))
 

@@ -4,30 +4,22 @@ use Rattle.factors.proofs.Tabling.{covered-startable, covered-filled}
 use borrow.Author.Needs.{needs}
 use Rattle.factors.proofs.suffix_table.fill_at.Statement.{statement}
 use Rattle.factors.proofs.suffix_table.fill_at.Tie as tie
-use Rattle.factors.proofs.suffix_table.fill_at.Reads as reads
-use Rattle.factors.proofs.suffix_table.fill_at.Lts as lts
-use Rattle.factors.proofs.suffix_table.fill.Reads as fill-reads
 
--- src/suffix_table.rt:55:16
 add-if1 : tie.Need-add-if1
 add-if1 c = search needs
 
--- src/suffix_table.rt:56:9
 fill-requires : tie.Need-fill-requires
 fill-requires c κs = (
   c .before .before .before .before .before .before .pre .0,
   covered-startable _ _ _ _ (c .before .before .before .before .before .before .pre .1 .0) (c .before .before .before .before .before .before .pre .1 .1),
 )
 
--- src/suffix_table.rt:49:1
 same-length : tie.Need-same-length
 same-length c = search needs
 
--- src/suffix_table.rt:49:1
 returns : tie.Need-returns
 returns c = search needs
 
--- src/suffix_table.rt:49:1
 returns-2 : tie.Need-returns-2
 returns-2 c = covered-filled _ _ _ _ (c .before .before .before .before .before .pre .1 .0) (c .if1 .left)
 

@@ -6,9 +6,6 @@ use lib.ListN.{length}
 use Rattle.factors.proofs.Tabling.{Covering, covering-start, covering-step, covering-end, filled-bounded}
 use Rattle.factors.proofs.suffix_table.fill_table.Statement.{statement}
 use Rattle.factors.proofs.suffix_table.fill_table.Tie as tie
-use Rattle.factors.proofs.suffix_table.fill_table.Reads as reads
-use Rattle.factors.proofs.suffix_table.fill_table.Lts as lts
-use Rattle.factors.proofs.suffix_table.fill_at.Reads as fill-at-reads
 
 abbrev Inv-loop : tie.InvT-loop
 Inv-loop text out₀ start₀ s₀ out start s = Covering text out₀ out start s
@@ -16,32 +13,25 @@ Inv-loop text out₀ start₀ s₀ out start s = Covering text out₀ out start 
 abbrev μ-loop : tie.MeasureT-loop
 μ-loop text out₀ start₀ s₀ out start s = length text - start
 
--- src/suffix_table.rt:69:5
 loop-holds : tie.Need-loop-holds Inv-loop μ-loop
 loop-holds c = covering-start _ _ (c .before .before .pre)
 
--- src/suffix_table.rt:70:9
 fill-at-requires : tie.Need-fill-at-requires Inv-loop μ-loop
 fill-at-requires c κs = (c .before .before .loop .inv .room, (c .before .before .loop .inv .covered, c .before .loop-test .taken))
 
--- src/suffix_table.rt:71:9
 add-start : tie.Need-add-start Inv-loop μ-loop
 add-start c = omega (arith, filled-bounded _ _ _ _ _ _ _ (c .before .before .before .before .before .before .loop .inv) (c .before .before .before .fill-at .ensures))
 
--- src/suffix_table.rt:69:5
 loop-less : tie.Need-loop-less Inv-loop μ-loop
 loop-less c = omega (arith, filled-bounded _ _ _ _ _ _ _ (c .before .before .before .before .before .before .loop .inv) (c .before .before .before .fill-at .ensures))
 
--- src/suffix_table.rt:69:5
 loop-again : tie.Need-loop-again Inv-loop μ-loop
 loop-again c =
     covering-step _ _ _ _ _ _ _ (c .before .before .before .before .before .before .loop .inv) (c .before .before .before .fill-at .ensures)
 
--- src/suffix_table.rt:63:1
 same-length : tie.Need-same-length Inv-loop μ-loop
 same-length c = c .before .loop .inv .size
 
--- src/suffix_table.rt:63:1
 returns : tie.Need-returns Inv-loop μ-loop
 returns c = covering-end _ _ _ _ _ (c .before .loop .inv) (c .loop-test .left)
 

@@ -7,67 +7,49 @@ use Rattle.factors.proofs.Checked.{empty-refused, long-refused, length-
 use Rattle.factors.proofs.Written.{tabled-written}
 use Rattle.factors.proofs.suffix_table.suffix_table.Statement.{statement}
 use Rattle.factors.proofs.suffix_table.suffix_table.Tie as tie
-use Rattle.factors.proofs.suffix_table.suffix_table.Reads as reads
-use Rattle.factors.proofs.suffix_table.suffix_table.Lts as lts
-use Rattle.answer.proofs.accepted.Reads as accepted-reads
-use Rattle.answer.proofs.limits.max_length.Reads as max-length-reads
-use Rattle.answer.proofs.refused.Reads as refused-reads
-use Rattle.factors.proofs.suffix_table.fill_table.Reads as fill-table-reads
 
--- src/suffix_table.rt:83:9
 refused-requires : tie.Need-refused-requires
 refused-requires c κs = search needs
 
--- src/suffix_table.rt:83:9
 returns : tie.Need-returns
 returns c = (
   c .refused .ensures ∙ empty-refused _ _ (c .before .if1 .taken),
   refused-keeps _ _ _ _ _ (c .refused .ensures),
 )
 
--- src/suffix_table.rt:85:12
 max-length-requires : tie.Need-max-length-requires
 max-length-requires c κs = search needs
 
--- src/suffix_table.rt:86:9
 refused-requires-2 : tie.Need-refused-requires-2
 refused-requires-2 c κs = search needs
 
--- src/suffix_table.rt:86:9
 returns-2 : tie.Need-returns-2
 returns-2 c = (
   c .refused2 .ensures ∙ long-refused _ _ (c .before .before .before .if1 .left) (omega (arith, c .before .before .max-length .ensures)),
   refused-keeps _ _ _ _ _ (c .refused2 .ensures),
 )
 
--- src/suffix_table.rt:89:9
 refused-requires-3 : tie.Need-refused-requires-3
 refused-requires-3 c κs = search needs
 
--- src/suffix_table.rt:89:9
 returns-3 : tie.Need-returns-3
 returns-3 c = (
   c .refused3 .ensures ∙ short-refused _ _ _ (c .before .if3 .taken) ∙ length-passed _ _ (c .before .before .before .before .if1 .left) (omega (arith, c .before .before .before .max-length .ensures)),
   refused-keeps _ _ _ _ _ (c .refused3 .ensures),
 )
 
--- src/suffix_table.rt:91:5
 fill-table-requires : tie.Need-fill-table-requires
 fill-table-requires c κs = search needs
 
--- src/suffix_table.rt:92:22
 cast-accepted : tie.Need-cast-accepted
 cast-accepted c = search needs
 
--- src/suffix_table.rt:92:5
 accepted-requires : tie.Need-accepted-requires
 accepted-requires c κs = search needs
 
--- src/suffix_table.rt:77:1
 same-length : tie.Need-same-length
 same-length c = search needs
 
--- src/suffix_table.rt:77:1
 returns-4 : tie.Need-returns-4
 returns-4 c = (
   c .accepted .ensures ∙ output-passed _ _ _ (c .before .before .before .before .before .if3 .left) ∙ length-passed _ _ (c .before .before .before .before .before .before .before .before .if1 .left) (omega (arith, c .before .before .before .before .before .before .before .max-length .ensures)),
