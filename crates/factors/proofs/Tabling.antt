@@ -94,8 +94,12 @@ module _ (x before out : List ℕ) (start period end : ℕ)
   back = omega (arith, w .repetition .whole)
 
   module _ (l : end < length x) (r : Comparison) (q : r ≡ comparisonOf (answerAt decided-default 0 x period end)) where
-    means : (c : words.Comparison) → answerAt decided-default 0 x period end ≡ c → words.Means defaultOrder c (letters 0 x end) (letters 0 x (end - period))
-    means c e = subst (λ (k : words.Comparison). words.Means defaultOrder k (letters 0 x end) (letters 0 x (end - period))) e (decided-default .right (letters 0 x end) (letters 0 x (end - period)))
+    -- What an answer says of the letter at `end` and the one a period before it.
+    abbrev Said : words.Comparison → Type 0
+    Said c = words.Means defaultOrder c (letters 0 x end) (letters 0 x (end - period))
+
+    said : (c : words.Comparison) → answerAt decided-default 0 x period end ≡ c → Said c
+    said c e = subst Said e (decided-default .right (letters 0 x end) (letters 0 x (end - period)))
 
     -- A smaller letter stops the scan.
     pub filling-below : r ≡ Below → Filled x before out start (record { period = period; end = end })
@@ -105,7 +109,7 @@ module _ (x before out : List ℕ) (start period end : ℕ)
               record {
                 repetition = w .repetition;
                 inside = w .inside;
-                stops = inr (end - period, back, l, means words.below (is-below (answerAt decided-default 0 x period end) (sym q ∙ e)));
+                stops = inr (end - period, back, l, said words.below (is-below (answerAt decided-default 0 x period end) (sym q ∙ e)));
               };
           table = w .table;
         }
@@ -113,7 +117,7 @@ module _ (x before out : List ℕ) (start period end : ℕ)
     -- An equal letter continues the period: the entry is that of the copy before.
     pub filling-same : r ≡ Same → Filling x before (set out end (getD out (end - period) 0)) start period (end + 1)
     filling-same e =
-        let m : letters 0 x end ≡ letters 0 x (end - period) = means words.same (is-same (answerAt decided-default 0 x period end) (sym q ∙ e)) in
+        let m : Said words.same = said words.same (is-same (answerAt decided-default 0 x period end) (sym q ∙ e)) in
         let o : suc end ≡ end + 1 = omega arith in
         let longer : Repetition defaultOrder (letters 0 x) start period (suc end) =
         repetition-longer defaultOrder (letters 0 x) start period end (w .repetition) (end - period) back (sym m) in
@@ -136,7 +140,7 @@ module _ (x before out : List ℕ) (start period end : ℕ)
     -- A greater letter makes all that was read a Lyndon word.
     pub filling-above : r ≡ Above → Filling x before (set out end (end + 1 - start)) start (end + 1 - start) (end + 1)
     filling-above e =
-        let m : words.Smaller defaultOrder (letters 0 x (end - period)) (letters 0 x end) = means words.above (is-above (answerAt decided-default 0 x period end) (sym q ∙ e)) in
+        let m : Said words.above = said words.above (is-above (answerAt decided-default 0 x period end) (sym q ∙ e)) in
         let o : suc end ≡ end + 1 = omega arith in
         let f : start + (end + 1 - start) ≡ suc end = omega (arith, w .repetition .whole) in
         record {

@@ -1,11 +1,12 @@
 -- Duval's scan, step by step, and the list of factor starts that it gives.
 -- Assumes nothing.
+use mathlib.Core.Path.{_≡_, refl}
 use mathlib.Core.Bool.{true, false}
 use mathlib.Core.List.{List, [], _∷_}
 use Prim.Native.Nat.{ℕ, zero, suc, _+_, _-_}
 use lib.Dec.{ltb}
 use lib.ListN.{length, getD}
-use Rattle.words.specs.Letters.{Letters, Decided, below, same, above}
+use Rattle.words.specs.Letters.{Letters, Decided, decided-rising, below, same, above}
 use Rattle.factors.specs.declared.scan.Stretch.{Stretch}
 
 -- The scan that began at `start` is at position j, and what it has read repeats its first p letters. A step compares the letter at j with
@@ -41,3 +42,9 @@ factorsFrom D z x (suc fuel) start s =
 -- The list that Duval's scan gives. It begins with no letter read.
 abbrev pub duval : {A : Type 0} {O : Letters A} → Decided O → A → List A → List ℕ
 duval D z x = factorsFrom D z x (length x) 0 (record { period = 1; end = 0 })
+
+-- Document 01's K6: of `abbababaababbaba` it gives 0, 3, 5, 7 and 15.
+pub duval-example :
+    duval decided-rising 0 (97 ∷ 98 ∷ 98 ∷ 97 ∷ 98 ∷ 97 ∷ 98 ∷ 97 ∷ 97 ∷ 98 ∷ 97 ∷ 98 ∷ 98 ∷ 97 ∷ 98 ∷ 97 ∷ [])
+    ≡ 0 ∷ 3 ∷ 5 ∷ 7 ∷ 15 ∷ []
+duval-example = refl

@@ -1,4 +1,4 @@
--- What the work of each call, once its checks have passed, returns and leaves in the buffers.
+-- What the work of a call, once its checks have passed, finds in the buffers, returns and leaves there.
 -- Assumes nothing.
 use mathlib.Core.Path.{_≡_}
 use mathlib.Core.List.{List}

@@ -33,10 +33,12 @@ refused-requires-3 : tie.Need-refused-requires-3
 refused-requires-3 c κs = search needs
 
 returns-3 : tie.Need-returns-3
-returns-3 c = (
-  c .refused3 .ensures ∙ short-refused _ _ _ (c .before .if3 .taken) ∙ length-passed _ _ (c .before .before .before .before .if1 .left) (omega (arith, c .before .before .before .max-length .ensures)),
-  refused-keeps _ _ _ _ _ (c .refused3 .ensures),
-)
+returns-3 c =
+    let checked = c .before .before .before in (
+      c .refused3 .ensures ∙ short-refused _ _ _ (c .before .if3 .taken) ∙
+          length-passed _ _ (checked .before .if1 .left) (omega (arith, checked .max-length .ensures)),
+      refused-keeps _ _ _ _ _ (c .refused3 .ensures),
+    )
 
 list-factors-requires : tie.Need-list-factors-requires
 list-factors-requires c κs = search needs
@@ -48,10 +50,13 @@ same-length : tie.Need-same-length
 same-length c = search needs
 
 returns-4 : tie.Need-returns-4
-returns-4 c = (
-  c .accepted .ensures ∙ ap acceptedWith (c .before .before .before .list-factors .ensures .counted) ∙ output-passed _ _ _ (c .before .before .before .before .before .if3 .left) ∙ length-passed _ _ (c .before .before .before .before .before .before .before .before .if1 .left) (omega (arith, c .before .before .before .before .before .before .before .max-length .ensures)),
-  accepted-writes _ _ _ _ _ (c .accepted .ensures) (c .before .before .before .list-factors .ensures .content),
-)
+returns-4 c =
+    let listed = c .before .before .before in
+    let checked = listed .before .before .before .before in (
+      c .accepted .ensures ∙ ap acceptedWith (listed .list-factors .ensures .counted) ∙ output-passed _ _ _ (listed .before .before .if3 .left) ∙
+          length-passed _ _ (checked .before .if1 .left) (omega (arith, checked .max-length .ensures)),
+      accepted-writes _ _ _ _ _ (c .accepted .ensures) (listed .list-factors .ensures .content),
+    )
 
 pub factorization-spec : {M : Type 1} → statement M
 factorization-spec =

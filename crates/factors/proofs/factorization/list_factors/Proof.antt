@@ -33,15 +33,22 @@ add-count : tie.Need-add-count Inv-loop μ-loop
 add-count c = omega (arith, c .before .before .loop .inv .behind)
 
 add-start : tie.Need-add-start Inv-loop μ-loop
-add-start c = omega (arith, listing-next _ _ _ _ _ _ (c .before .before .before .before .before .before .pre) (c .before .before .before .loop .inv) (c .before .before .loop-test .taken) _ (c .before .stretch-at .ensures))
+add-start c =
+    let turn = c .before .before in
+    let head = turn .before in
+    omega (arith, listing-next _ _ _ _ _ _ (head .before .before .before .pre) (head .loop .inv) (turn .loop-test .taken) _ (c .before .stretch-at .ensures))
 
 loop-less : tie.Need-loop-less Inv-loop μ-loop
-loop-less c = omega (arith, listing-next _ _ _ _ _ _ (c .before .before .before .before .before .before .pre) (c .before .before .before .loop .inv) (c .before .before .loop-test .taken) _ (c .before .stretch-at .ensures))
+loop-less c =
+    let turn = c .before .before in
+    let head = turn .before in
+    omega (arith, listing-next _ _ _ _ _ _ (head .before .before .before .pre) (head .loop .inv) (turn .loop-test .taken) _ (c .before .stretch-at .ensures))
 
 loop-again : tie.Need-loop-again Inv-loop μ-loop
 loop-again c =
-    listing-step _ _ _ _ _ _ (c .before .before .before .before .before .before .pre) (c .before .before .before .loop .inv) (c .before .before .loop-test .taken) _
-    (c .before .stretch-at .ensures)
+    let turn = c .before .before in
+    let head = turn .before in
+    listing-step _ _ _ _ _ _ (head .before .before .before .pre) (head .loop .inv) (turn .loop-test .taken) _ (c .before .stretch-at .ensures)
 
 cast-result : tie.Need-cast-result Inv-loop μ-loop
 cast-result c = omega (arith, c .before .loop .inv .behind, c .before .loop .inv .inside)

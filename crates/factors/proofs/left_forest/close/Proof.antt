@@ -37,10 +37,16 @@ wide-requires : tie.Need-wide-requires Inv-loop μ-loop
 wide-requires c κs = search needs
 
 loop-less : tie.Need-loop-less Inv-loop μ-loop
-loop-less c = omega (arith, c .wide .ensures, closing-falls _ _ _ _ _ _ (c .before .before .before .before .before .before .pre) (c .before .before .before .loop .inv) (c .before .before .loop-test .taken))
+loop-less c =
+    let turn = c .before .before in
+    let head = turn .before in
+    omega (arith, c .wide .ensures, closing-falls _ _ _ _ _ _ (head .before .before .before .pre) (head .loop .inv) (turn .loop-test .taken))
 
 loop-again : tie.Need-loop-again Inv-loop μ-loop
-loop-again c = rw (c .wide .ensures) (closing-step _ _ _ _ _ _ (c .before .before .before .before .before .before .pre) (c .before .before .before .loop .inv) (c .before .before .loop-test .taken))
+loop-again c =
+    let turn = c .before .before in
+    let head = turn .before in
+    rw (c .wide .ensures) (closing-step _ _ _ _ _ _ (head .before .before .before .pre) (head .loop .inv) (turn .loop-test .taken))
 
 same-length : tie.Need-same-length Inv-loop μ-loop
 same-length c = c .before .loop .inv .size

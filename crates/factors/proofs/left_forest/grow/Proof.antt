@@ -9,10 +9,17 @@ fill-table-requires : tie.Need-fill-table-requires
 fill-table-requires c κs = search needs
 
 link-requires : tie.Need-link-requires
-link-requires c κs = table-linkable _ _ _ _ (c .before .before .before .before .before .before .before .before .before .pre .1 .0) (c .before .before .before .before .before .before .before .before .before .pre .1 .1) (c .before .before .before .before .fill-table .ensures)
+link-requires c κs =
+    let tabled = c .before .before .before .before in
+    let entry = tabled .before .before .before .before .before in
+    table-linkable _ _ _ _ (entry .pre .1 .0) (entry .pre .1 .1) (tabled .fill-table .ensures)
 
 mark-roots-requires : tie.Need-mark-roots-requires
-mark-roots-requires c κs = crossed-descends _ _ _ _ (c .before .before .before .before .before .before .before .before .before .before .before .before .before .before .before .before .pre .1 .0) (c .before .before .before .before .before .before .before .before .before .before .before .before .before .before .before .before .pre .1 .1) (c .before .before .before .before .before .before .before .before .before .before .before .fill-table .ensures) _ _ _ (c .before .before .before .before .before .before .link .ensures) (c .before .before .before .before .before .before .before .before .before .before .before .before .before .before .before .before .pre .0)
+mark-roots-requires c κs =
+    let linked = c .before .before .before .before .before .before in
+    let tabled = linked .before .before .before .before .before in
+    let entry = tabled .before .before .before .before .before in
+    crossed-descends _ _ _ _ (entry .pre .1 .0) (entry .pre .1 .1) (tabled .fill-table .ensures) _ _ _ (linked .link .ensures) (entry .pre .0)
 
 same-length : tie.Need-same-length
 same-length c = search needs
@@ -22,9 +29,12 @@ same-length-2 c = search needs
 
 returns : tie.Need-returns
 returns c =
-    forest-written _ _ _ _ (c .before .before .before .before .before .before .before .before .before .before .before .before .before .before .before .before .before .before .before .before .before .pre .1 .0) (c .before .before .before .before .before .before .before .before .before .before .before .before .before .before .before .before .before .before .before .before .before .pre .1 .1) (c .before .before .before .before .before .before .before .before .before .before .before .before .before .before .before .before .fill-table .ensures) _ _ _
-    (c .before .before .before .before .before .before .before .before .before .before .before .link .ensures) (c .before .before .before .before .before .before .before .before .before .before .before .before .before .before .before .before .before .before .before .before .before .pre .0) _ _ (c .before .before .before .before .mark-roots .kept .0) (c .before .before .before .before .mark-roots .kept .1 .0)
-    (c .before .before .before .before .mark-roots .ensures .0) (c .before .before .before .before .mark-roots .ensures .1)
+    let marked = c .before .before .before .before in
+    let linked = marked .before .before .before .before .before .before .before in
+    let tabled = linked .before .before .before .before .before in
+    let entry = tabled .before .before .before .before .before in
+    forest-written _ _ _ _ (entry .pre .1 .0) (entry .pre .1 .1) (tabled .fill-table .ensures) _ _ _ (linked .link .ensures) (entry .pre .0) _ _
+    (marked .mark-roots .kept .0) (marked .mark-roots .kept .1 .0) (marked .mark-roots .ensures .0) (marked .mark-roots .ensures .1)
 
 pub grow-spec : {M : Type 1} → statement M
 grow-spec =

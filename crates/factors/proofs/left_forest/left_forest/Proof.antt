@@ -32,19 +32,23 @@ refused-requires-3 : tie.Need-refused-requires-3
 refused-requires-3 c κs = search needs
 
 returns-3 : tie.Need-returns-3
-returns-3 c = (
-  c .refused3 .ensures ∙ short-refused _ _ _ (c .before .if3 .taken) ∙ length-passed _ _ (c .before .before .before .before .if1 .left) (omega (arith, c .before .before .before .max-length .ensures)),
-  (refused-keeps _ _ _ _ _ (c .refused3 .ensures), refused-keeps _ _ _ _ _ (c .refused3 .ensures)),
-)
+returns-3 c =
+    let checked = c .before .before .before in (
+      c .refused3 .ensures ∙ short-refused _ _ _ (c .before .if3 .taken) ∙
+          length-passed _ _ (checked .before .if1 .left) (omega (arith, checked .max-length .ensures)),
+      (refused-keeps _ _ _ _ _ (c .refused3 .ensures), refused-keeps _ _ _ _ _ (c .refused3 .ensures)),
+    )
 
 refused-requires-4 : tie.Need-refused-requires-4
 refused-requires-4 c κs = search needs
 
 returns-4 : tie.Need-returns-4
-returns-4 c = (
-  c .refused4 .ensures ∙ short-refused _ _ _ (c .before .if4 .taken) ∙ output-passed _ _ _ (c .before .before .if3 .left) ∙ length-passed _ _ (c .before .before .before .before .before .if1 .left) (omega (arith, c .before .before .before .before .max-length .ensures)),
-  (refused-keeps _ _ _ _ _ (c .refused4 .ensures), refused-keeps _ _ _ _ _ (c .refused4 .ensures)),
-)
+returns-4 c =
+    let checked = c .before .before .before .before in (
+      c .refused4 .ensures ∙ short-refused _ _ _ (c .before .if4 .taken) ∙ output-passed _ _ _ (c .before .before .if3 .left) ∙
+          length-passed _ _ (checked .before .if1 .left) (omega (arith, checked .max-length .ensures)),
+      (refused-keeps _ _ _ _ _ (c .refused4 .ensures), refused-keeps _ _ _ _ _ (c .refused4 .ensures)),
+    )
 
 grow-requires : tie.Need-grow-requires
 grow-requires c κs = search needs
@@ -62,13 +66,17 @@ same-length-2 : tie.Need-same-length-2
 same-length-2 c = search needs
 
 returns-5 : tie.Need-returns-5
-returns-5 c = (
-  c .accepted .ensures ∙ output-passed _ _ _ (c .before .before .before .before .before .before .before .before .if4 .left) ∙ output-passed _ _ _ (c .before .before .before .before .before .before .before .before .before .if3 .left) ∙ length-passed _ _ (c .before .before .before .before .before .before .before .before .before .before .before .before .if1 .left) (omega (arith, c .before .before .before .before .before .before .before .before .before .before .before .max-length .ensures)),
-  (
-    accepted-writes _ _ _ _ _ (c .accepted .ensures) (c .before .before .before .before .before .grow .ensures .in-first),
-    accepted-writes _ _ _ _ _ (c .accepted .ensures) (c .before .before .before .before .before .grow .ensures .in-past),
-  ),
-)
+returns-5 c =
+    let grown = c .before .before .before .before .before in
+    let roomy = grown .before .before .before in
+    let checked = roomy .before .before .before in (
+      c .accepted .ensures ∙ output-passed _ _ _ (roomy .if4 .left) ∙ output-passed _ _ _ (roomy .before .if3 .left) ∙
+          length-passed _ _ (checked .before .if1 .left) (omega (arith, checked .max-length .ensures)),
+      (
+        accepted-writes _ _ _ _ _ (c .accepted .ensures) (grown .grow .ensures .in-first),
+        accepted-writes _ _ _ _ _ (c .accepted .ensures) (grown .grow .ensures .in-past),
+      ),
+    )
 
 pub left-forest-spec : {M : Type 1} → statement M
 left-forest-spec =

@@ -39,10 +39,16 @@ wide-requires : tie.Need-wide-requires Inv-loop μ-loop
 wide-requires c κs = search needs
 
 sub-last : tie.Need-sub-last Inv-loop μ-loop
-sub-last c = omega (arith, c .wide .ensures, entry-fits _ _ _ _ _ _ _ (c .before .before .before .before .before .before .pre) (c .before .before .before .loop .inv .crossed) (c .before .before .loop-test .taken))
+sub-last c =
+    let turn = c .before .before in
+    let head = turn .before in
+    omega (arith, c .wide .ensures, entry-fits _ _ _ _ _ _ _ (head .before .before .before .pre) (head .loop .inv .crossed) (turn .loop-test .taken))
 
 close-requires : tie.Need-close-requires Inv-loop μ-loop
-close-requires c κs = reading-descends _ _ _ _ _ _ _ (c .before .before .before .before .before .before .before .before .pre) (c .before .before .before .before .before .loop .inv .crossed) (c .before .before .before .before .loop-test .taken)
+close-requires c κs =
+    let turn = c .before .before .before .before in
+    let head = turn .before in
+    reading-descends _ _ _ _ _ _ _ (head .before .before .before .pre) (head .loop .inv .crossed) (turn .loop-test .taken)
 
 add-e : tie.Need-add-e Inv-loop μ-loop
 add-e c = omega arith
@@ -52,11 +58,15 @@ loop-less c = omega arith
 
 loop-again : tie.Need-loop-again Inv-loop μ-loop
 loop-again c =
+    let closed = c .before .before in
+    let widened = closed .before .before .before in
+    let turn = widened .before .before in
+    let head = turn .before in
     record {
-      reached = omega arith;
+      reached = omega (arith, turn .loop-test .taken);
       crossed =
-          crossed-step _ _ _ _ _ _ _ (c .before .before .before .before .before .before .before .before .before .before .before .pre) (c .before .before .before .before .before .before .before .before .loop .inv .crossed) (c .before .before .before .before .before .before .before .loop-test .taken) _
-          (ap (λ (v : ℕ). c .before .before .before .before .before .before .before .before .loop .e + 1 - v) (c .before .before .before .before .before .wide .ensures)) _ (c .before .before .close .kept .1 .0) (c .before .before .close .ensures);
+          crossed-step _ _ _ _ _ _ _ (head .before .before .before .pre) (head .loop .inv .crossed) (turn .loop-test .taken) _
+          (ap (λ (v : ℕ). head .loop .e + 1 - v) (widened .wide .ensures)) _ (closed .close .kept .1 .0) (closed .close .ensures);
     }
 
 same-length : tie.Need-same-length Inv-loop μ-loop

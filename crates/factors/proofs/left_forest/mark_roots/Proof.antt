@@ -44,10 +44,16 @@ slice-write-past : tie.Need-slice-write-past Inv-loop μ-loop
 slice-write-past c = omega arith
 
 loop-less : tie.Need-loop-less Inv-loop μ-loop
-loop-less c = omega (arith, c .wide .ensures, rooting-falls _ _ _ _ _ _ (c .before .before .before .before .before .before .pre) (c .before .before .before .loop .inv) (c .before .before .loop-test .taken))
+loop-less c =
+    let turn = c .before .before in
+    let head = turn .before in
+    omega (arith, c .wide .ensures, rooting-falls _ _ _ _ _ _ (head .before .before .before .pre) (head .loop .inv) (turn .loop-test .taken))
 
 loop-again : tie.Need-loop-again Inv-loop μ-loop
-loop-again c = rooting-step _ _ _ _ _ _ (c .before .before .before .before .before .before .pre) (c .before .before .before .loop .inv) _ (c .before .before .loop-test .taken) (c .wide .ensures)
+loop-again c =
+    let turn = c .before .before in
+    let head = turn .before in
+    rooting-step _ _ _ _ _ _ (head .before .before .before .pre) (head .loop .inv) _ (turn .loop-test .taken) (c .wide .ensures)
 
 slice-write-first-2 : tie.Need-slice-write-first-2 Inv-loop μ-loop
 slice-write-first-2 c = omega arith

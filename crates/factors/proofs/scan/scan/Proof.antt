@@ -38,8 +38,9 @@ enum-told c = search needs
 
 returns : tie.Need-returns Inv-loop μ-loop
 returns c =
-    scanning-below _ _ _ _ (c .before .before .before .before .before .before .loop .inv) (c .before .before .before .before .before .loop-test .taken)
-    (c .before .before .compare .result) (c .before .before .compare .ensures) (c .enum-told .given .1)
+    let asked = c .before .before in
+    let head = asked .before .before .before .before in
+    scanning-below _ _ _ _ (head .loop .inv) (asked .before .before .before .loop-test .taken) (asked .compare .result) (asked .compare .ensures) (c .enum-told .given .1)
 
 enum-told-2 : tie.Need-enum-told-2 Inv-loop μ-loop
 enum-told-2 c = search needs
@@ -61,15 +62,15 @@ loop-less c = omega arith
 
 loop-again : tie.Need-loop-again Inv-loop μ-loop
 loop-again c =
+    let asked = c .before in
+    let turn = asked .before .before .before in
     ⊎-elim
     (λ w.
     rw (w .2)
-    (scanning-same _ _ _ _ (c .before .before .before .before .before .loop .inv) (c .before .before .before .before .loop-test .taken)
-    (c .before .compare .result) (c .before .compare .ensures) (w .1 .given .1)))
+    (scanning-same _ _ _ _ (turn .before .loop .inv) (turn .loop-test .taken) (asked .compare .result) (asked .compare .ensures) (w .1 .given .1)))
     (λ w.
     rw (w .2)
-    (scanning-above _ _ _ _ (c .before .before .before .before .before .loop .inv) (c .before .before .before .before .loop-test .taken)
-    (c .before .compare .result) (c .before .compare .ensures) (w .1 .given .1)))
+    (scanning-above _ _ _ _ (turn .before .loop .inv) (turn .loop-test .taken) (asked .compare .result) (asked .compare .ensures) (w .1 .given .1)))
     (c .match .came)
 
 returns-2 : tie.Need-returns-2 Inv-loop μ-loop

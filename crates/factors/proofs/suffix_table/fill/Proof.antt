@@ -48,10 +48,12 @@ same-length c = c .before .before .before .before .before .before .loop .inv .ta
 
 returns : tie.Need-returns Inv-loop μ-loop
 returns c =
-    filled-first _ _ _ _ _ _ (c .before .before .before .before .before .before .before .before .before .pre .1 .inside)
-    (filling-below _ _ _ _ _ _ (c .before .before .before .before .before .before .before .before .before .pre .1 .lowest)
-    (c .before .before .before .before .before .before .loop .inv) (c .before .before .before .before .before .loop-test .taken)
-    (c .before .before .compare .result) (c .before .before .compare .ensures) (c .enum-told .given .1))
+    let asked = c .before .before in
+    let turn = asked .before .before .before in
+    let head = turn .before in
+    let entry = head .before .before .before in
+    filled-first _ _ _ _ _ _ (entry .pre .1 .inside)
+    (filling-below _ _ _ _ _ _ (entry .pre .1 .lowest) (head .loop .inv) (turn .loop-test .taken) (asked .compare .result) (asked .compare .ensures) (c .enum-told .given .1))
 
 enum-told-2 : tie.Need-enum-told-2 Inv-loop μ-loop
 enum-told-2 c = search needs
@@ -97,17 +99,17 @@ loop-less c = omega arith
 
 loop-again : tie.Need-loop-again Inv-loop μ-loop
 loop-again c =
+    let asked = c .before in
+    let turn = asked .before .before .before in
+    let head = turn .before in
+    let entry = head .before .before .before in
     ⊎-elim
     (λ w.
     rw (w .3, w .4)
-    (filling-same _ _ _ _ _ _ (c .before .before .before .before .before .before .before .before .pre .1 .lowest)
-    (c .before .before .before .before .before .loop .inv) (c .before .before .before .before .loop-test .taken)
-    (c .before .compare .result) (c .before .compare .ensures) (w .1 .given .1)))
+    (filling-same _ _ _ _ _ _ (entry .pre .1 .lowest) (head .loop .inv) (turn .loop-test .taken) (asked .compare .result) (asked .compare .ensures) (w .1 .given .1)))
     (λ w.
     rw (w .2, w .3)
-    (filling-above _ _ _ _ _ _ (c .before .before .before .before .before .before .before .before .pre .1 .lowest)
-    (c .before .before .before .before .before .loop .inv) (c .before .before .before .before .loop-test .taken)
-    (c .before .compare .result) (c .before .compare .ensures) (w .1 .given .1)))
+    (filling-above _ _ _ _ _ _ (entry .pre .1 .lowest) (head .loop .inv) (turn .loop-test .taken) (asked .compare .result) (asked .compare .ensures) (w .1 .given .1)))
     (c .match .came)
 
 same-length-2 : tie.Need-same-length-2 Inv-loop μ-loop
@@ -115,8 +117,10 @@ same-length-2 c = c .before .loop .inv .table .size ∙ simp length-set
 
 returns-2 : tie.Need-returns-2 Inv-loop μ-loop
 returns-2 c =
-    filled-first _ _ _ _ _ _ (c .before .before .before .before .pre .1 .inside)
-    (filling-end _ _ _ _ _ _ (c .before .before .before .before .pre .1 .lowest) (c .before .loop .inv) (c .loop-test .left))
+    let head = c .before in
+    let entry = head .before .before .before in
+    filled-first _ _ _ _ _ _ (entry .pre .1 .inside)
+    (filling-end _ _ _ _ _ _ (entry .pre .1 .lowest) (head .loop .inv) (c .loop-test .left))
 
 pub fill-spec : {M : Type 1} → statement M
 fill-spec =

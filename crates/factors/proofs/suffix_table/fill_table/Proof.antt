@@ -20,14 +20,22 @@ fill-at-requires : tie.Need-fill-at-requires Inv-loop μ-loop
 fill-at-requires c κs = (c .before .before .loop .inv .room, (c .before .before .loop .inv .covered, c .before .loop-test .taken))
 
 add-start : tie.Need-add-start Inv-loop μ-loop
-add-start c = omega (arith, filled-bounded _ _ _ _ _ _ _ (c .before .before .before .before .before .before .loop .inv) (c .before .before .before .fill-at .ensures))
+add-start c =
+    let filled = c .before .before .before in
+    let head = filled .before .before .before in
+    omega (arith, filled-bounded _ _ _ _ _ _ _ (head .loop .inv) (filled .fill-at .ensures))
 
 loop-less : tie.Need-loop-less Inv-loop μ-loop
-loop-less c = omega (arith, filled-bounded _ _ _ _ _ _ _ (c .before .before .before .before .before .before .loop .inv) (c .before .before .before .fill-at .ensures))
+loop-less c =
+    let filled = c .before .before .before in
+    let head = filled .before .before .before in
+    omega (arith, filled-bounded _ _ _ _ _ _ _ (head .loop .inv) (filled .fill-at .ensures))
 
 loop-again : tie.Need-loop-again Inv-loop μ-loop
 loop-again c =
-    covering-step _ _ _ _ _ _ _ (c .before .before .before .before .before .before .loop .inv) (c .before .before .before .fill-at .ensures)
+    let filled = c .before .before .before in
+    let head = filled .before .before .before in
+    covering-step _ _ _ _ _ _ _ (head .loop .inv) (filled .fill-at .ensures)
 
 same-length : tie.Need-same-length Inv-loop μ-loop
 same-length c = c .before .loop .inv .size

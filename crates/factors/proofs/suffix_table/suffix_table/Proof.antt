@@ -33,10 +33,12 @@ refused-requires-3 : tie.Need-refused-requires-3
 refused-requires-3 c κs = search needs
 
 returns-3 : tie.Need-returns-3
-returns-3 c = (
-  c .refused3 .ensures ∙ short-refused _ _ _ (c .before .if3 .taken) ∙ length-passed _ _ (c .before .before .before .before .if1 .left) (omega (arith, c .before .before .before .max-length .ensures)),
-  refused-keeps _ _ _ _ _ (c .refused3 .ensures),
-)
+returns-3 c =
+    let checked = c .before .before .before in (
+      c .refused3 .ensures ∙ short-refused _ _ _ (c .before .if3 .taken) ∙
+          length-passed _ _ (checked .before .if1 .left) (omega (arith, checked .max-length .ensures)),
+      refused-keeps _ _ _ _ _ (c .refused3 .ensures),
+    )
 
 fill-table-requires : tie.Need-fill-table-requires
 fill-table-requires c κs = search needs
@@ -51,10 +53,14 @@ same-length : tie.Need-same-length
 same-length c = search needs
 
 returns-4 : tie.Need-returns-4
-returns-4 c = (
-  c .accepted .ensures ∙ output-passed _ _ _ (c .before .before .before .before .before .if3 .left) ∙ length-passed _ _ (c .before .before .before .before .before .before .before .before .if1 .left) (omega (arith, c .before .before .before .before .before .before .before .max-length .ensures)),
-  accepted-writes _ _ _ _ _ (c .accepted .ensures) (tabled-written _ _ _ (omega (arith, c .before .before .before .before .before .before .before .max-length .ensures)) (c .before .before .before .fill-table .ensures)),
-)
+returns-4 c =
+    let filled = c .before .before .before in
+    let checked = filled .before .before .before .before in (
+      c .accepted .ensures ∙ output-passed _ _ _ (filled .before .before .if3 .left) ∙
+          length-passed _ _ (checked .before .if1 .left) (omega (arith, checked .max-length .ensures)),
+      accepted-writes _ _ _ _ _ (c .accepted .ensures)
+          (tabled-written _ _ _ (omega (arith, checked .max-length .ensures)) (filled .fill-table .ensures)),
+    )
 
 pub suffix-table-spec : {M : Type 1} → statement M
 suffix-table-spec =
