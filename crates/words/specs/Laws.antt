@@ -20,3 +20,7 @@ pub mod RunListing
 pub mod RunMarks
 pub mod EachRunOnce
 pub mod ValidArray
+pub mod Repetition
+pub mod LowestSuffix
+pub mod LongestEnding
+pub mod LeftForest

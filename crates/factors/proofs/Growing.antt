@@ -1,0 +1,135 @@
+-- The three passes of the left forest, one after the other, write the left forest.
+-- Assumes nothing.
+use mathlib.Core.Path.{_≡_, sym, ap, subst, _∙_}
+use mathlib.Core.List.{List}
+use Prim.Native.Nat.{ℕ, zero, suc, _-_, _<_, _≤_}
+use native.Mathlib.Omega.{arith}
+use lib.ListN.{length, getD, take}
+use lib.Seq.{getD-take, length-take-le}
+use Rattle.words.specs.LeftForest.{IsLeftForest}
+use Rattle.words.specs.Compute.Factorization.{factorizationOf, factorizationOf-right}
+use Rattle.words.specs.Compute.Forest.{leftFirstOf, leftPastOf, leftForestOf-right}
+use Rattle.words.specs.Laws.SpanLyndon.{letters}
+use Rattle.words.specs.Laws.LongestEnding.{LongestEnding, longest-ending}
+use Rattle.words.specs.Laws.LeftForest.{Uncrossed, LeftRecords, longest-nested, records-left-forest}
+use Rattle.words.specs.Laws.ForestUnique.{left-forest-unique}
+use Rattle.factors.specs.Default.{defaultOrder, decided-default}
+use Rattle.factors.specs.Room.{Room}
+use Rattle.factors.specs.Results.{Tabled, Grown}
+use Rattle.factors.specs.Links.{startIn, Descends, Linked, Linkable, Crossed, OwnRoots}
+use Rattle.factors.proofs.Written.{written-places}
+
+module _ (x first past table : List ℕ) (room-first : Room x first) (room-past : Room x past) (w : Tabled x past table (length x)) where
+  table-start : (t : ℕ) → (l : t < length x) → w .entry t l .start ≡ startIn table t
+  table-start t l = omega (arith, w .entry t l .ends)
+
+  -- The table gives the starts of the longest Lyndon words.
+  table-longest : (t : ℕ) → t < length x → LongestEnding defaultOrder (letters 0 x) (startIn table t) (suc t)
+  table-longest t l =
+      subst (λ (s : ℕ). LongestEnding defaultOrder (letters 0 x) s (suc t)) (table-start t l)
+      (longest-ending defaultOrder 0 x t (getD table t 0) l (w .entry t l))
+
+  -- The table can be read.
+  pub table-linkable : Linkable first table (length x)
+  table-linkable =
+      record {
+        short = room-first .short;
+        in-first = room-first .places;
+        in-past = omega (arith, room-past .places, w .size);
+        positive = λ t l. omega (arith, table-longest t l .lyndon .non-empty);
+        fits = λ t l. omega (arith, w .entry t l .ends);
+        nested = longest-nested defaultOrder (letters 0 x) (length x) (startIn table) table-longest;
+      }
+
+  module _ (first₁ past₁ : List ℕ) (last : ℕ) (c : Crossed first table first₁ past₁ (length x) last) (some : 0 < length x) where
+    abbrev e : ℕ
+    e = length x - 1
+
+    at : suc e ≡ length x
+    at = omega (arith, some)
+
+    start-below : (t : ℕ) → t < length x → startIn table t ≤ t
+    start-below t l = omega (arith, table-longest t l .lyndon .non-empty)
+
+    last-below : last ≤ e
+    last-below = omega (arith, c .here e at, start-below e (omega (arith, at)))
+
+    -- The starts of the factors can be marked.
+    pub crossed-descends : Descends first₁ past₁ last
+    crossed-descends =
+        record {
+          small = omega (arith, room-first .short, last-below, at);
+          in-first = omega (arith, room-first .places, c .first-size, last-below, at);
+          in-past = omega (arith, room-past .places, w .size, c .past-size, last-below, at);
+          down = λ i l. omega (arith, c .link i (omega (arith, last-below, at)), start-below i (omega (arith, last-below, at)));
+        }
+
+    crossed-linked : Linked (startIn table) first₁ e last
+    crossed-linked =
+        record {
+          below = λ i l. start-below i (omega (arith, at));
+          nested = λ i t l. table-linkable .nested i t (omega (arith, at));
+          link = λ i l. c .link i (omega (arith, at));
+          here = c .here e at;
+        }
+
+    module _ (first₂ past₂ : List ℕ) (first-size : length first₂ ≡ length first₁) (past-size : length past₂ ≡ length past₁)
+        (roots-first : (start : ℕ → ℕ) (k : ℕ) → Linked start first₁ k last → OwnRoots start first₁ first₂ k)
+        (roots-past : (start : ℕ → ℕ) (k : ℕ) → Linked start first₁ k last → OwnRoots start past₁ past₂ k) where
+      in-first : OwnRoots (startIn table) first₁ first₂ e
+      in-first = roots-first (startIn table) e crossed-linked
+
+      in-past : OwnRoots (startIn table) past₁ past₂ e
+      in-past = roots-past (startIn table) e crossed-linked
+
+      taken : (l : List ℕ) (j : ℕ) → j < length x → getD (take (length x) l) j 0 ≡ getD l j 0
+      taken l j q = getD-take (length x) l j 0 q
+
+      full : (s : ℕ) → s ≡ length x → (j : ℕ) → Uncrossed (startIn table) (length x) j → Uncrossed (startIn table) s j
+      full s q j u t p r = u t p (omega arith)
+
+      records : LeftRecords (startIn table) (length x) (take (length x) first₂) (take (length x) past₂)
+      records =
+          record {
+            first-cut =
+                λ i d l q.
+                taken first₂ (suc i) (omega (arith, q .from)) ∙ in-first .kept (suc i) d (omega (arith, at)) q ∙
+                c .link i (omega (arith, q .from));
+            past-cut =
+                λ i d l q.
+                taken past₂ (suc i) (omega (arith, q .from)) ∙ in-past .kept (suc i) d (omega (arith, at)) q ∙ c .closed (suc i) d l q;
+            first-own = λ j l u. taken first₂ j l ∙ in-first .own j (omega (arith, at)) (full (suc e) at j u);
+            past-own = λ j l u. taken past₂ j l ∙ in-past .own j (omega (arith, at)) (full (suc e) at j u);
+          }
+
+      first-long : length x ≤ length first₂
+      first-long = omega (arith, first-size, c .first-size, room-first .places)
+
+      past-long : length x ≤ length past₂
+      past-long = omega (arith, past-size, c .past-size, w .size, room-past .places)
+
+      forest : IsLeftForest defaultOrder x (take (length x) first₂) (take (length x) past₂)
+      forest =
+          records-left-forest decided-default 0 x (startIn table) table-longest (take (length x) first₂) (take (length x) past₂) records
+          (length-take-le (length x) first₂ first-long) (length-take-le (length x) past₂ past-long)
+
+      pub forest-written : Grown x first first₂ past past₂
+      forest-written =
+          let s : List ℕ = factorizationOf decided-default x in
+          let g : IsLeftForest defaultOrder x (leftFirstOf decided-default x s) (leftPastOf decided-default x s) =
+          leftForestOf-right decided-default x (factorizationOf-right decided-default x) in
+          let q = left-forest-unique forest g in
+          record {
+            in-first =
+                written-places (leftFirstOf decided-default x s) first first₂ (omega (arith, g .first-size, room-first .places))
+                (first-size ∙ c .first-size)
+                (λ t l. sym (taken first₂ t (omega (arith, g .first-size))) ∙ ap (λ (m : List ℕ). getD m t 0) (q .0))
+                (λ t l. in-first .rest t (omega (arith, g .first-size, at)) ∙ c .first-rest t (omega (arith, g .first-size)));
+            in-past =
+                written-places (leftPastOf decided-default x s) past past₂ (omega (arith, g .past-size, room-past .places))
+                (past-size ∙ c .past-size ∙ w .size)
+                (λ t l. sym (taken past₂ t (omega (arith, g .past-size))) ∙ ap (λ (m : List ℕ). getD m t 0) (q .1))
+                (λ t l.
+                in-past .rest t (omega (arith, g .past-size, at)) ∙ c .past-rest t (omega (arith, g .past-size)) ∙
+                w .past t (omega (arith, g .past-size)));
+          }

@@ -1,0 +1,8 @@
+pub mod Scanning
+pub mod Listing
+pub mod Checked
+pub mod Tabling
+pub mod Written
+pub mod Linking
+pub mod Rooting
+pub mod Growing

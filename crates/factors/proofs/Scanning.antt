@@ -1,0 +1,77 @@
+-- What holds at each turn of the scan's loop, and what the answer of a comparison says.
+-- Assumes nothing.
+use mathlib.Core.Path.{_≡_, refl, sym, _∙_}
+use mathlib.Core.List.{List}
+use Prim.Native.Nat.{ℕ, zero, suc, _+_, _-_, _<_, _≤_}
+use native.Mathlib.Omega.{arith}
+use lib.ListN.{length}
+use Rattle.words.specs.Letters as words
+use Rattle.factors.specs.declared.order.Comparison.{Comparison}
+use Rattle.factors.specs.declared.order.Comparison.the-variants.{Below, Same, Above}
+use Rattle.factors.specs.Compared.{comparisonOf}
+use Rattle.factors.specs.Default.{decided-default}
+use Rattle.factors.specs.Duval.{scanFrom, scanOf}
+use Rattle.factors.specs.DuvalSteps.{answerAt, scan-end, scan-below, scan-same, scan-above}
+
+-- The answer that the code has is the one of the definition.
+pub is-below : (c : words.Comparison) → comparisonOf c ≡ Below → c ≡ words.below
+is-below words.below e = refl
+is-below words.same e = absurd (let z : _≡_ {A = ℕ} 0 1 = cc in omega arith)
+is-below words.above e = absurd (let z : _≡_ {A = ℕ} 0 1 = cc in omega arith)
+
+pub is-same : (c : words.Comparison) → comparisonOf c ≡ Same → c ≡ words.same
+is-same words.below e = absurd (let z : _≡_ {A = ℕ} 0 1 = cc in omega arith)
+is-same words.same e = refl
+is-same words.above e = absurd (let z : _≡_ {A = ℕ} 0 1 = cc in omega arith)
+
+pub is-above : (c : words.Comparison) → comparisonOf c ≡ Above → c ≡ words.above
+is-above words.below e = absurd (let z : _≡_ {A = ℕ} 0 1 = cc in omega arith)
+is-above words.same e = absurd (let z : _≡_ {A = ℕ} 0 1 = cc in omega arith)
+is-above words.above e = refl
+
+-- The scan from `start` has come to `end` with a period, and what it will find from there is what it finds.
+pub record Scanning (x : List ℕ) (start period end : ℕ) : Type 0 where
+  pub positive : 0 < period
+  pub whole : start + period ≤ end
+  pub inside : end ≤ length x
+  pub rest : scanFrom decided-default 0 x (length x - end) start period end ≡ scanOf decided-default 0 x start
+
+pub scanning-start : (x : List ℕ) (start : ℕ) → start < length x → Scanning x start 1 (start + 1)
+scanning-start x start l =
+    let e : suc start ≡ start + 1 = omega arith in
+    record { positive = omega arith; whole = omega arith; inside = omega arith; rest = rw e }
+
+module _ (x : List ℕ) (start period end : ℕ) (s : Scanning x start period end) (l : end < length x) where
+  -- A smaller letter stops the scan.
+  pub scanning-below : (r : Comparison) → r ≡ comparisonOf (answerAt decided-default 0 x period end) → r ≡ Below →
+      record { period = period; end = end } ≡ scanOf decided-default 0 x start
+  scanning-below r q e =
+      sym (scan-below decided-default 0 x start period end l (is-below (answerAt decided-default 0 x period end) (sym q ∙ e))) ∙ s .rest
+
+  -- An equal letter continues the period.
+  pub scanning-same : (r : Comparison) → r ≡ comparisonOf (answerAt decided-default 0 x period end) → r ≡ Same → Scanning x start period (end + 1)
+  scanning-same r q e =
+      record {
+        positive = s .positive;
+        whole = omega (arith, s .whole);
+        inside = omega arith;
+        rest =
+            sym (scan-same decided-default 0 x start period end l (is-same (answerAt decided-default 0 x period end) (sym q ∙ e))) ∙ s .rest;
+      }
+
+  -- A greater letter makes all that was read the period.
+  pub scanning-above : (r : Comparison) → r ≡ comparisonOf (answerAt decided-default 0 x period end) → r ≡ Above →
+      Scanning x start (end + 1 - start) (end + 1)
+  scanning-above r q e =
+      record {
+        positive = omega (arith, s .whole);
+        whole = omega (arith, s .whole);
+        inside = omega arith;
+        rest =
+            sym (scan-above decided-default 0 x start period end l (is-above (answerAt decided-default 0 x period end) (sym q ∙ e))) ∙ s .rest;
+      }
+
+-- The end of the text stops the scan.
+pub scanning-end : (x : List ℕ) (start period end : ℕ) → Scanning x start period end → length x ≤ end →
+    record { period = period; end = end } ≡ scanOf decided-default 0 x start
+scanning-end x start period end s l = sym (scan-end decided-default 0 x start period end l) ∙ s .rest

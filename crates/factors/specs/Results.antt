@@ -1,0 +1,53 @@
+-- What the work of a call, once its checks have passed, finds in the buffers, returns and leaves there.
+-- Assumes nothing.
+use mathlib.Core.Path.{_≡_}
+use mathlib.Core.List.{List}
+use Prim.Native.Nat.{ℕ, _+_, _<_, _≤_}
+use lib.ListN.{length, getD}
+use Rattle.words.specs.SuffixTable.{LongestTo}
+use Rattle.words.specs.Compute.Factorization.{factorizationOf}
+use Rattle.words.specs.Compute.Forest.{leftFirstOf, leftPastOf}
+use Rattle.words.specs.Laws.SpanLyndon.{letters}
+use Rattle.words.specs.Laws.LowestSuffix.{Lowest}
+use Rattle.answer.specs.Limits.{maxLength}
+use Rattle.answer.specs.Checks.{written}
+use Rattle.factors.specs.declared.scan.Stretch.{Stretch}
+use Rattle.factors.specs.Default.{defaultOrder, decided-default}
+use Rattle.factors.specs.DuvalFactorization.{Stopped}
+
+-- The starts of the factors of x are written, and counted.
+pub record Listed (x before after : List ℕ) (count : ℕ) : Type 0 where
+  pub counted : count ≡ length (factorizationOf decided-default x)
+  pub content : after ≡ written (factorizationOf decided-default x) before
+
+-- The first e entries of a buffer are those of the Lyndon suffix table of x; places past the text keep what they held before.
+pub record Tabled (x before after : List ℕ) (e : ℕ) : Type 0 where
+  pub size : length after ≡ length before
+  pub entry : (t : ℕ) → t < e → LongestTo defaultOrder x t (getD after t 0)
+  pub past : (t : ℕ) → length x ≤ t → getD after t 0 ≡ getD before t 0
+
+-- A scan may begin at `start`: no suffix before it is smaller, and the entries before it are there.
+pub record Startable (x out : List ℕ) (start : ℕ) : Type 0 where
+  pub inside : start < length x
+  pub lowest : Lowest defaultOrder (letters 0 x) (length x) start
+  pub entry : (t : ℕ) → t < start → LongestTo defaultOrder x t (getD out t 0)
+
+-- The scan from `start` has stopped with the stretch s, and the entries up to its end are there.
+pub record Filled (x before after : List ℕ) (start : ℕ) (s : Stretch) : Type 0 where
+  pub stopped : Stopped defaultOrder (letters 0 x) (length x) start s
+  pub table : Tabled x before after (s .end)
+
+-- The factors before `start` are done, and the entries up to the end of the last scan's stretch s are there. While s holds one more copy
+-- of its period, it is the stretch of a scan from `start`.
+pub record Covered (x out : List ℕ) (start : ℕ) (s : Stretch) : Type 0 where
+  pub lowest : Lowest defaultOrder (letters 0 x) (length x) start
+  pub reached : start ≤ s .end
+  pub inside : s .end ≤ length x
+  pub small : s .period ≤ maxLength
+  pub entry : (t : ℕ) → t < s .end → LongestTo defaultOrder x t (getD out t 0)
+  pub remains : start + s .period ≤ s .end → Stopped defaultOrder (letters 0 x) (length x) start s
+
+-- The left forest of x is written.
+pub record Grown (x first first′ past past′ : List ℕ) : Type 0 where
+  pub in-first : first′ ≡ written (leftFirstOf decided-default x (factorizationOf decided-default x)) first
+  pub in-past : past′ ≡ written (leftPastOf decided-default x (factorizationOf decided-default x)) past

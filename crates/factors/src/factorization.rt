@@ -1,0 +1,50 @@
+// The factor list of a byte text.
+use super::scan::Stretch;
+use super::scan::stretch_at;
+use answer::Answer;
+use answer::Reason;
+use answer::limits;
+ghost use mathlib.Core.Path.{_≡_};
+ghost use lib.ListN.{length};
+ghost use Rattle.words.specs.Compute.Factorization.{factorizationOf};
+ghost use Rattle.answer.specs.Checks.{contentAfter};
+ghost use Rattle.factors.specs.Default.{decided-default};
+ghost use Rattle.factors.specs.Room.{Room};
+ghost use Rattle.factors.specs.Results.{Listed};
+ghost use Rattle.factors.specs.Answers.{factorizationAnswer};
+
+// Writes the starts of the factors, one a turn, and returns how many there are.
+fn list_factors(text: &[u8], out: &mut [u32]) -> u32
+    requires { ⌜ Room (now text) (now out) ⌝ }
+    ensures { λ r. ⌜ Listed (now (text .entry)) (now (out .entry)) (now (out .exit)) r ⌝ }
+{
+    let mut count: usize = 0;
+    let mut start: usize = 0;
+    let mut s = Stretch { period: 1, end: 0 };
+    while start < text.len() {
+        s = stretch_at(text, start, s);
+        out[count] = start as u32;
+        count += 1;
+        start += s.period;
+    }
+    count as u32
+}
+
+// Writes the starts of the factors of `text` into `out`; the count is their number.
+pub fn factorization(text: &[u8], out: &mut [u32]) -> Answer
+    ensures { λ r. ⌜ r ≡ factorizationAnswer (now (text .entry)) (length (now (out .entry))) ⌝ }
+    ensures { λ r. ⌜ now (out .exit) ≡ contentAfter r (factorizationOf decided-default (now (text .entry))) (now (out .entry)) ⌝ }
+{
+    let n = text.len();
+    if n == 0 {
+        return answer::refused(Reason::EmptyInput, 0);
+    }
+    if n > limits::max_length() {
+        return answer::refused(Reason::TooLong, 0);
+    }
+    if out.len() < n {
+        return answer::refused(Reason::ShortOutput, 0);
+    }
+    let count = list_factors(text, out);
+    answer::accepted(count)
+}

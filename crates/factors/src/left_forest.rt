@@ -1,0 +1,100 @@
+// The left forest of a byte text.
+use super::suffix_table::fill_table;
+use super::width::wide;
+use answer::Answer;
+use answer::Reason;
+use answer::limits;
+ghost use mathlib.Core.Path.{_≡_};
+ghost use Prim.Native.Nat.{ℕ, _<_};
+ghost use lib.ListN.{length};
+ghost use Rattle.words.specs.Compute.Factorization.{factorizationOf};
+ghost use Rattle.words.specs.Compute.Forest.{leftFirstOf, leftPastOf};
+ghost use Rattle.answer.specs.Checks.{contentAfter};
+ghost use Rattle.factors.specs.Default.{decided-default};
+ghost use Rattle.factors.specs.Room.{Room};
+ghost use Rattle.factors.specs.Results.{Grown};
+ghost use Rattle.factors.specs.Answers.{leftForestAnswer};
+ghost use Rattle.factors.specs.Links.{Descends, Linked, Closes, Linkable, Crossed, OwnRoots};
+
+// The word that ends at `e` starts at `last`: from `e` down the links of FIRST, each position above
+// `last` gets its end in PAST.
+fn close(first: &[u32], past: &mut [u32], e: usize, last: usize)
+    requires { ⌜ Descends (now first) (now past) e ⌝ }
+    ensures { λ r. ⌜ ((start : ℕ → ℕ) → Linked start (now (first .entry)) e last → Closes start (now (past .entry)) (now (past .exit)) e) ⌝ }
+{
+    let mut t = e;
+    while last < t {
+        past[t] = (e + 1) as u32;
+        t = wide(first[t]);
+    }
+}
+
+// Reads the suffix table in PAST from left to right. FIRST gets the starts of its words, each one place
+// further on, and PAST the ends at the positions that a word crosses. Returns the start of the last word.
+fn link(first: &mut [u32], past: &mut [u32], n: usize) -> usize
+    requires { ⌜ Linkable (now first) (now past) n ⌝ }
+    ensures { λ r. ⌜ Crossed (now (first .entry)) (now (past .entry)) (now (first .exit)) (now (past .exit)) n r ⌝ }
+{
+    let mut last: usize = 0;
+    let mut e: usize = 0;
+    while e < n {
+        first[e] = last as u32;
+        last = e + 1 - wide(past[e]);
+        close(first, past, e, last);
+        e += 1;
+    }
+    last
+}
+
+// From the start of the last word down the links of FIRST: each position that no word crosses, the
+// start of a factor, holds itself in both buffers.
+fn mark_roots(first: &mut [u32], past: &mut [u32], last: usize)
+    requires { ⌜ Descends (now first) (now past) last ⌝ }
+    ensures { λ r. ⌜ ((start : ℕ → ℕ) (e : ℕ) → Linked start (now (first .entry)) e last → OwnRoots start (now (first .entry)) (now (first .exit)) e) ⌝ }
+    ensures { λ r. ⌜ ((start : ℕ → ℕ) (e : ℕ) → Linked start (now (first .entry)) e last → OwnRoots start (now (past .entry)) (now (past .exit)) e) ⌝ }
+{
+    let mut t = last;
+    while 0 < t {
+        let next = wide(first[t]);
+        first[t] = t as u32;
+        past[t] = t as u32;
+        t = next;
+    }
+    first[0] = 0;
+    past[0] = 0;
+}
+
+// Writes the left forest: PAST holds the suffix table until its words have been read.
+fn grow(text: &[u8], first: &mut [u32], past: &mut [u32])
+    requires { ⌜ 0 < length (now text) ⌝ }
+    requires { ⌜ Room (now text) (now first) ⌝ }
+    requires { ⌜ Room (now text) (now past) ⌝ }
+    ensures { λ r. ⌜ Grown (now (text .entry)) (now (first .entry)) (now (first .exit)) (now (past .entry)) (now (past .exit)) ⌝ }
+{
+    fill_table(text, past);
+    let last = link(first, past, text.len());
+    mark_roots(first, past, last);
+}
+
+// Writes the left forest of `text` into `first` and `past`; the count is the number of letters.
+pub fn left_forest(text: &[u8], first: &mut [u32], past: &mut [u32]) -> Answer
+    ensures { λ r. ⌜ r ≡ leftForestAnswer (now (text .entry)) (length (now (first .entry))) (length (now (past .entry))) ⌝ }
+    ensures { λ r. ⌜ now (first .exit) ≡ contentAfter r (leftFirstOf decided-default (now (text .entry)) (factorizationOf decided-default (now (text .entry)))) (now (first .entry)) ⌝ }
+    ensures { λ r. ⌜ now (past .exit) ≡ contentAfter r (leftPastOf decided-default (now (text .entry)) (factorizationOf decided-default (now (text .entry)))) (now (past .entry)) ⌝ }
+{
+    let n = text.len();
+    if n == 0 {
+        return answer::refused(Reason::EmptyInput, 0);
+    }
+    if n > limits::max_length() {
+        return answer::refused(Reason::TooLong, 0);
+    }
+    if first.len() < n {
+        return answer::refused(Reason::ShortOutput, 0);
+    }
+    if past.len() < n {
+        return answer::refused(Reason::ShortOutput, 0);
+    }
+    grow(text, first, past);
+    answer::accepted(n as u32)
+}
