@@ -7,8 +7,13 @@ ghost use lib.ListN.{length};
 ghost use Rattle.lyndon_c.specs.Record.{recordOf};
 ghost use Rattle.answer.specs.Checks.{contentAfter};
 ghost use Rattle.array.specs.Calls.{arrayAnswer, runsAnswer, runNumbers, bothArrays};
+ghost use Rattle.factors.specs.Default.{decided-default};
+ghost use Rattle.factors.specs.Answers.{factorizationAnswer, suffixTableAnswer, leftForestAnswer};
 ghost use Rattle.words.specs.Letters.{decided-order};
 ghost use Rattle.words.specs.Compute.LyndonArray.{arrayOf};
+ghost use Rattle.words.specs.Compute.Factorization.{factorizationOf};
+ghost use Rattle.words.specs.Compute.SuffixTable.{suffixTableOf};
+ghost use Rattle.words.specs.Compute.Forest.{leftFirstOf, leftPastOf};
 
 // An answer as C has it: number 0 and the count, or the refusal's number and the position.
 #[repr(C)]
@@ -52,4 +57,32 @@ pub extern "C" fn lyndon_runs(text: &[u8], work: &mut [u32], list: &mut [u32]) -
     ensures arrays { λ r. ⌜ now (work .exit) ≡ contentAfter (runsAnswer (now (text .entry)) (length (now (work .entry))) (length (now (list .entry)))) (bothArrays (now (text .entry))) (now (work .entry)) ⌝ }
 {
     exported(array::runs::runs(text, work, list))
+}
+
+// The starts of the Lyndon factors of a text of bytes.
+#[no_mangle]
+pub extern "C" fn lyndon_factorization(text: &[u8], out: &mut [u32]) -> LyndonAnswer
+    ensures answer { λ r. ⌜ r ≡ recordOf (factorizationAnswer (now (text .entry)) (length (now (out .entry)))) ⌝ }
+    ensures content { λ r. ⌜ now (out .exit) ≡ contentAfter (factorizationAnswer (now (text .entry)) (length (now (out .entry)))) (factorizationOf decided-default (now (text .entry))) (now (out .entry)) ⌝ }
+{
+    exported(factors::factorization::factorization(text, out))
+}
+
+// The Lyndon suffix table of a text of bytes.
+#[no_mangle]
+pub extern "C" fn lyndon_suffix_table(text: &[u8], out: &mut [u32]) -> LyndonAnswer
+    ensures answer { λ r. ⌜ r ≡ recordOf (suffixTableAnswer (now (text .entry)) (length (now (out .entry)))) ⌝ }
+    ensures content { λ r. ⌜ now (out .exit) ≡ contentAfter (suffixTableAnswer (now (text .entry)) (length (now (out .entry)))) (suffixTableOf decided-default (now (text .entry))) (now (out .entry)) ⌝ }
+{
+    exported(factors::suffix_table::suffix_table(text, out))
+}
+
+// The left Lyndon forest of a text of bytes.
+#[no_mangle]
+pub extern "C" fn lyndon_left_forest(text: &[u8], first: &mut [u32], past: &mut [u32]) -> LyndonAnswer
+    ensures answer { λ r. ⌜ r ≡ recordOf (leftForestAnswer (now (text .entry)) (length (now (first .entry))) (length (now (past .entry)))) ⌝ }
+    ensures starts { λ r. ⌜ now (first .exit) ≡ contentAfter (leftForestAnswer (now (text .entry)) (length (now (first .entry))) (length (now (past .entry)))) (leftFirstOf decided-default (now (text .entry)) (factorizationOf decided-default (now (text .entry)))) (now (first .entry)) ⌝ }
+    ensures ends { λ r. ⌜ now (past .exit) ≡ contentAfter (leftForestAnswer (now (text .entry)) (length (now (first .entry))) (length (now (past .entry)))) (leftPastOf decided-default (now (text .entry)) (factorizationOf decided-default (now (text .entry)))) (now (past .entry)) ⌝ }
+{
+    exported(factors::left_forest::left_forest(text, first, past))
 }
