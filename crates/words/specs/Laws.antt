@@ -14,3 +14,9 @@ pub mod ForestUnique
 pub mod Runs
 pub mod RunRenaming
 pub mod ValidArray
+pub mod ValidSpans
+pub mod Pigeonhole
+pub mod ValidText
+pub mod ArrayValid
+pub mod ArrayFactors
+pub mod ArrayForest
