@@ -1,2 +1,4 @@
 pub mod Crossings
 pub mod Verdicts
+pub mod Writing
+pub mod Filling

@@ -1,2 +1,3 @@
 pub mod Answers
 pub mod Checked
+pub mod Written

@@ -20,7 +20,7 @@ use Rattle.words.specs.Laws.SpanLyndon.{letters}
 use Rattle.words.specs.Laws.SuffixOrder.{SuffixLess, ends, parts, NextSmaller}
 use Rattle.words.specs.Laws.NextSmaller.{empty-suffix-less}
 use Rattle.words.specs.Laws.ArrayNext.{next-array}
-use Rattle.words.specs.Laws.ValidSpans.{Innermost, end-after, end-inside, ends-nest}
+use Rattle.words.specs.Laws.ValidSpans.{Innermost, Unheld, end-after, end-inside, ends-nest}
 use Rattle.words.specs.Laws.Pigeonhole.{Injects, takes-all}
 
 one-at-most : (b : Bool) → one b ≤ 1
@@ -62,8 +62,14 @@ holding-at-most a i j (suc k) h = go (decLt i (endOf a k)) (holding-at-most a i 
         at k = omega arith
 
 -- At most i earlier spans hold i.
-depth-at-most : (a : List ℕ) (i : ℕ) → holding a i i ≤ i
+pub depth-at-most : (a : List ℕ) (i : ℕ) → holding a i i ≤ i
 depth-at-most a i = let e : 0 + i ≡ i = zero-add i in omega (arith, rw e at (holding-bounds a i 0 i .1))
+
+-- A position that no earlier span holds is held by none.
+pub depth-of-root : (a : List ℕ) (j : ℕ) → Unheld a j j → holding a j j ≡ 0
+depth-of-root a j u =
+    let e : 0 + j ≡ j = zero-add j in
+    rw e at (holding-none a j 0 j (λ m p q. u m (omega arith)))
 
 module _ (a : List ℕ) (v : Valid a) where
   -- Where k stands in the span of i, every earlier span that holds i holds k.
@@ -131,7 +137,7 @@ module _ (a : List ℕ) (v : Valid a) where
   letter-past i j h p q =
       omega (arith, depth-past i j h p q, end-after a v j q, end-inside a v i h, end-inside a v j q)
 
-  letter-below : (i : ℕ) → i < length a → letterFor a i < length a
+  pub letter-below : (i : ℕ) → i < length a → letterFor a i < length a
   letter-below i h = omega (arith, depth-at-most a i, end-after a v i h, end-inside a v i h)
 
   letters-differ : (i j : ℕ) → i < j → j < length a → ¬ (letterFor a i ≡ letterFor a j)
