@@ -1,14 +1,14 @@
 -- Why the walks from each position find the least crossing: it is met from its innermost earlier span.
 -- Assumes nothing.
-use mathlib.Core.Path.{_≡_, refl, sym, subst}
+use mathlib.Core.Path.{_≡_, sym, subst}
 use mathlib.Core.List.{List}
 use Prim.Native.Nat.{ℕ, zero, suc, _+_, _<_, _≤_}
 use native.Mathlib.Omega.{arith}
-use native.Mathlib.Decide.{decLt, ℕ-discrete}
+use native.Mathlib.Decide.{decLt}
 use lib.ListN.{length}
-use Rattle.words.specs.ValidArray.{InRange, Crosses}
+use Rattle.words.specs.ValidArray.{Crosses}
 use Rattle.words.specs.ArrayForest.{endOf}
-use Rattle.words.specs.Laws.ValidSpans.{Innermost, Unheld, InnermostCase, held, unheld, innermost-case}
+use Rattle.words.specs.Laws.ValidSpans.{Innermost, InnermostCase, held, unheld, innermost-case}
 use Rattle.from_array.specs.Checked.{EntriesInRange, CrossingFrom, LeastCrossing}
 
 -- The walk from i has come to k: no span below k whose innermost one is that of i crosses its end.

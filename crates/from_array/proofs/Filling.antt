@@ -1,13 +1,12 @@
 -- A buffer filled position by position: at its turn a position hands a value to each position whose innermost span is its own.
 -- Assumes nothing.
-use mathlib.Core.Path.{_≡_, refl, sym, ap, subst, _∙_}
+use mathlib.Core.Path.{_≡_, refl, sym, subst, _∙_}
 use mathlib.Core.List.{List}
-use Prim.Native.Nat.{ℕ, zero, suc, _+_, _-_, _<_, _≤_}
+use Prim.Native.Nat.{ℕ, _+_, _-_, _<_, _≤_}
 use native.Mathlib.Omega.{arith}
 use native.Mathlib.Decide.{decLt, ℕ-discrete}
 use lib.ListN.{length, getD}
 use Rattle.words.specs.ValidArray.{Valid}
-use Rattle.words.specs.ArrayForest.{endOf}
 use Rattle.words.specs.Laws.ValidSpans.{Innermost, Unheld, InnermostCase, held, unheld, innermost-case, innermost-is, end-inside}
 use Rattle.from_array.specs.Written.{Holds, Marked}
 use Rattle.from_array.proofs.Writing.{Stored}

@@ -6,8 +6,8 @@ use Prim.Native.Nat.{ℕ, _+_, _<_, _≤_}
 use native.Mathlib.Omega.{arith}
 use native.Mathlib.Decide.{decLt}
 use lib.ListN.{length, getD}
-use Rattle.words.specs.ValidArray.{InRange, Valid, Fault, zero-entry, long-entry, crossing, FirstBadEntry, FirstFault}
-use Rattle.words.specs.Compute.ValidArray.{Verdict, fits, fault, HasVerdict, checkArray}
+use Rattle.words.specs.ValidArray.{zero-entry, long-entry, crossing, FirstBadEntry}
+use Rattle.words.specs.Compute.ValidArray.{Verdict, fits, fault, HasVerdict}
 use Rattle.words.specs.Laws.ValidArray.{checkArray-computes}
 use Rattle.answer.specs.declared.Reason.the-variants.{ZeroEntry, LongEntry, CrossingSpans}
 use Rattle.answer.specs.Answers.{acceptedWith, refusedFor}

@@ -4,7 +4,10 @@
 // Contracts cite `specs/Answers.antt` and the definitions of `words`. Nothing is assumed.
 mod check;
 mod entries;
+mod forest;
 mod mark;
-mod reconstruct;
-mod right_forest;
 mod spans;
+mod text;
+
+pub use forest::right_forest;
+pub use text::reconstruct;

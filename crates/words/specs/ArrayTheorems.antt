@@ -10,7 +10,7 @@ use Rattle.words.specs.Letters.{Letters, rising}
 use Rattle.words.specs.LyndonArray.{IsLyndonArray}
 use Rattle.words.specs.Factorization.{IsFactorization}
 use Rattle.words.specs.RightForest.{IsRightForest}
-use Rattle.words.specs.ValidArray.{Valid, Fault, FirstFault, textFor}
+use Rattle.words.specs.ValidArray.{Valid, Fault, textFor}
 use Rattle.words.specs.Permutation.{EachOnce}
 use Rattle.words.specs.ArrayForest.{forestFirst, forestPast}
 use Rattle.words.specs.Compute.ValidArray.{Verdict, fits, fault, HasVerdict, checkArray, checkArray-right}

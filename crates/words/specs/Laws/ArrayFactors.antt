@@ -1,18 +1,17 @@
 -- The starts of the factors read off an array: they are the factorization of every text that has the array. No comparison is decided:
 -- each factor's Lyndon word is given by the array, and that factors never rise is a negation.
 -- Assumes nothing.
-use mathlib.Core.Path.{_≡_, refl, sym, ap, subst, _∙_}
+use mathlib.Core.Path.{_≡_, refl, sym, ap, _∙_}
 use mathlib.Core.Bool.{Bool, true, false}
 use mathlib.Core.List.{List, [], _∷_, _++_}
 use Prim.Native.Nat.{ℕ, zero, suc, _+_, _-_, _<_, _≤_}
 use native.Mathlib.Omega.{arith}
-use lib.ListN.{length, getD, drop}
+use lib.ListN.{length, drop}
 use lib.Seq.{take-length, drop-length}
 use lib.Dec.{ltb}
 use borrow.Author.Tests.{ltb-true, ltb-false}
 use Rattle.words.specs.Letters.{Letters}
-use Rattle.words.specs.Word.{span, Less}
-use Rattle.words.specs.Lyndon.{Lyndon}
+use Rattle.words.specs.Word.{span}
 use Rattle.words.specs.LyndonArray.{IsLyndonArray}
 use Rattle.words.specs.Factorization.{joined, AllLyndon, NeverRising, starts, IsFactorization}
 use Rattle.words.specs.ValidArray.{Valid}

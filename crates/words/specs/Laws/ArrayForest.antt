@@ -1,8 +1,8 @@
 -- The right forest read off an array is the right forest of every text that has it, and it determines the array. No comparison is decided:
 -- each cut's Lyndon word is given by the array, and that no longer suffix is one is a negation.
 -- Assumes nothing.
-use mathlib.Core.Path.{_≡_, refl, sym, ap, subst, _∙_}
-use mathlib.Core.Bool.{Bool, true, false}
+use mathlib.Core.Path.{_≡_, sym, ap, subst, _∙_}
+use mathlib.Core.Bool.{Bool}
 use mathlib.Core.List.{List, [], _∷_}
 use Prim.Native.Nat.{ℕ, zero, suc, _+_, _-_, _<_, _≤_}
 use native.Mathlib.Omega.{arith}
@@ -15,13 +15,13 @@ use Rattle.words.specs.Letters.{Letters}
 use Rattle.words.specs.Word.{span}
 use Rattle.words.specs.Lyndon.{Lyndon}
 use Rattle.words.specs.LyndonArray.{IsLyndonArray}
-use Rattle.words.specs.CutTree.{CutTree, letter, cut, Recorded, Tree, IsForest}
+use Rattle.words.specs.CutTree.{CutTree, letter, cut, Recorded, Tree}
 use Rattle.words.specs.RightForest.{RightCut, IsRightForest}
 use Rattle.words.specs.ValidArray.{Valid}
-use Rattle.words.specs.ArrayForest.{endOf, innermost, firstFor, pastFor, forestFirst, forestPast}
+use Rattle.words.specs.ArrayForest.{endOf, firstFor, pastFor, forestFirst, forestPast}
 use Rattle.words.specs.Compute.Search.{leastFrom, LeastFrom, leastFrom-right, least-at-most}
 use Rattle.words.specs.Laws.Tabulate.{length-tabulate, getD-tabulate}
-use Rattle.words.specs.Laws.ValidSpans.{Innermost, Unheld, innermost-is, unheld-is, own-unheld, past-of-start, past-of-inner, end-after, end-inside, ends-nest, end-unheld}
+use Rattle.words.specs.Laws.ValidSpans.{Unheld, innermost-is, unheld-is, own-unheld, past-of-start, past-of-inner, end-after, end-inside, ends-nest, end-unheld}
 use Rattle.words.specs.Laws.ArrayValid.{array-valid}
 use Rattle.words.specs.Laws.ArrayFactors.{EndChain, factorStarts, starts-ends, array-factorization}
 

@@ -1,11 +1,11 @@
 -- The text that document 01 writes for a valid array: its letters are all different, and in rising order it has that array.
 -- Assumes nothing.
-use mathlib.Core.Path.{_≡_, refl, sym, ap, subst, _∙_}
+use mathlib.Core.Path.{_≡_, sym, ap, subst, _∙_}
 use mathlib.Core.Bool.{Bool, true, false}
 use mathlib.Core.List.{List}
 use Prim.Native.Nat.{ℕ, zero, suc, _+_, _-_, _<_, _≤_}
 use native.Mathlib.Omega.{arith}
-use native.Mathlib.Decide.{decLt, ℕ-discrete}
+use native.Mathlib.Decide.{decLt}
 use native.Mathlib.Nat.{zero-add}
 use lib.ListN.{length, getD}
 use lib.Dec.{ltb}
@@ -17,11 +17,11 @@ use Rattle.words.specs.Permutation.{EachOnce}
 use Rattle.words.specs.ArrayForest.{endOf}
 use Rattle.words.specs.Laws.Tabulate.{length-tabulate, getD-tabulate}
 use Rattle.words.specs.Laws.SpanLyndon.{letters}
-use Rattle.words.specs.Laws.SuffixOrder.{SuffixLess, ends, parts, NextSmaller}
+use Rattle.words.specs.Laws.SuffixOrder.{SuffixLess, parts, NextSmaller}
 use Rattle.words.specs.Laws.NextSmaller.{empty-suffix-less}
 use Rattle.words.specs.Laws.ArrayNext.{next-array}
 use Rattle.words.specs.Laws.ValidSpans.{Innermost, Unheld, end-after, end-inside, ends-nest}
-use Rattle.words.specs.Laws.Pigeonhole.{Injects, takes-all}
+use Rattle.words.specs.Laws.Pigeonhole.{takes-all}
 
 one-at-most : (b : Bool) → one b ≤ 1
 one-at-most true = omega arith

@@ -1,9 +1,8 @@
 -- `from_array::check::check` meets its contract: each way out has the verdict that its tests tell.
 -- Assumes nothing.
-use mathlib.Core.Path.{_≡_, sym, _∙_}
+use mathlib.Core.Path.{sym, _∙_}
 use mathlib.Core.List.{List}
-use Prim.Native.Nat.{ℕ, _<_, _≤_}
-use native.Mathlib.Omega.{arith}
+use Prim.Native.Nat.{ℕ}
 use borrow.Author.Needs.{needs}
 use Rattle.from_array.specs.Checked.{EntriesInRange}
 use Rattle.from_array.proofs.Verdicts.{zero-verdict, long-verdict, all-in-range, crossing-verdict, fits-verdict}

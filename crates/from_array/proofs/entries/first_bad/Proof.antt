@@ -7,7 +7,6 @@ use lib.ListN.{length, getD}
 use borrow.Author.Count.{below-more}
 use borrow.Author.Needs.{needs}
 use Rattle.words.specs.ValidArray.{InRange}
-use Rattle.from_array.specs.Checked.{FirstBad}
 use Rattle.from_array.proofs.entries.first_bad.Statement.{statement}
 use Rattle.from_array.proofs.entries.first_bad.Tie as tie
 

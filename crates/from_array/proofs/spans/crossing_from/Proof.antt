@@ -1,13 +1,13 @@
 -- `from_array::spans::crossing_from` meets its contract. The loop's invariant is the walk's; the measure is what is left of the span.
 -- Assumes nothing.
 use mathlib.Core.List.{List}
-use Prim.Native.Nat.{ℕ, _+_, _-_, _<_, _≤_}
-use mathlib.Core.Path.{_≡_, sym, subst}
+use Prim.Native.Nat.{ℕ, _-_, _<_}
+use mathlib.Core.Path.{_≡_}
 use native.Mathlib.Omega.{arith}
 use lib.ListN.{length}
 use borrow.Author.Needs.{needs}
 use Rattle.words.specs.ArrayForest.{endOf}
-use Rattle.from_array.specs.Checked.{EntriesInRange, CrossingFrom}
+use Rattle.from_array.specs.Checked.{EntriesInRange}
 use Rattle.from_array.proofs.Crossings.{Walk, walk-starts, walk-inside, walk-rises, walk-goes-on, walk-finds, walk-ends}
 use Rattle.from_array.proofs.spans.crossing_from.Statement.{statement}
 use Rattle.from_array.proofs.spans.crossing_from.Tie as tie

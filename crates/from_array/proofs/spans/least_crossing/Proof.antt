@@ -3,10 +3,9 @@
 -- Assumes nothing.
 use mathlib.Core.Logic.{⊎-elim}
 use mathlib.Core.List.{List}
-use Prim.Native.Nat.{ℕ, _+_, _-_, _<_, _≤_}
+use Prim.Native.Nat.{ℕ, _-_}
 use native.Mathlib.Omega.{arith}
 use lib.ListN.{length}
-use borrow.Author.Needs.{needs}
 use Rattle.from_array.proofs.Crossings.{Walked, walked-none, walked-lower, walked-same, walked-all}
 use Rattle.from_array.proofs.spans.least_crossing.Statement.{statement}
 use Rattle.from_array.proofs.spans.least_crossing.Tie as tie

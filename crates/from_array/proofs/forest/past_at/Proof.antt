@@ -1,4 +1,4 @@
--- `from_array::right_forest::past_at` meets its contract, by the two cases of PAST.
+-- `from_array::forest::past_at` meets its contract, by the two cases of PAST.
 -- Assumes nothing.
 use mathlib.Core.Path.{_≡_, sym, _∙_}
 use mathlib.Core.List.{List}
@@ -7,8 +7,8 @@ use native.Mathlib.Omega.{arith}
 use borrow.Author.Needs.{needs}
 use Rattle.words.specs.ArrayForest.{firstFor}
 use Rattle.words.specs.Laws.ValidSpans.{past-of-start, past-of-inner, end-inside}
-use Rattle.from_array.proofs.right_forest.past_at.Statement.{statement}
-use Rattle.from_array.proofs.right_forest.past_at.Tie as tie
+use Rattle.from_array.proofs.forest.past_at.Statement.{statement}
+use Rattle.from_array.proofs.forest.past_at.Tie as tie
 
 -- The array, the position, and that FIRST there is what was handed in.
 abbrev a : tie.Start → List ℕ

@@ -1,19 +1,18 @@
--- `from_array::right_forest::write_first` meets its contract. The loop's invariant: the positions whose innermost span starts before `i`
+-- `from_array::forest::write_first` meets its contract. The loop's invariant: the positions whose innermost span starts before `i`
 -- have it, and the factor starts have themselves.
 -- Assumes nothing.
-use mathlib.Core.Path.{_≡_, sym, _∙_}
+use mathlib.Core.Path.{sym, _∙_}
 use mathlib.Core.List.{List}
 use Prim.Native.Nat.{ℕ, _-_, _<_, _≤_}
 use native.Mathlib.Omega.{arith}
 use lib.ListN.{length}
-use borrow.Author.Needs.{needs}
 use Rattle.words.specs.ArrayForest.{firstFor}
 use Rattle.words.specs.Laws.ValidSpans.{innermost-is, unheld-is}
 use Rattle.from_array.specs.Written.{Room, Holds, Marked}
 use Rattle.from_array.proofs.Writing.{holds-after}
 use Rattle.from_array.proofs.Filling.{Filling, filling-starts, filling-keeps, filling-goes-on, filling-ends}
-use Rattle.from_array.proofs.right_forest.write_first.Statement.{statement}
-use Rattle.from_array.proofs.right_forest.write_first.Tie as tie
+use Rattle.from_array.proofs.forest.write_first.Statement.{statement}
+use Rattle.from_array.proofs.forest.write_first.Tie as tie
 
 abbrev Inv-loop : tie.InvT-loop
 Inv-loop array first₀ i₀ first i = Filling (firstFor array) (firstFor array) array i first₀ first × (i ≤ length array)

@@ -1,14 +1,12 @@
--- `from_array::reconstruct::write_zeros` meets its contract. The loop's invariant: the places passed hold 0.
+-- `from_array::text::write_zeros` meets its contract. The loop's invariant: the places passed hold 0.
 -- Assumes nothing.
 use mathlib.Core.Path.{_≡_, refl, subst}
-use Prim.Native.Nat.{ℕ, _-_, _<_, _≤_}
+use Prim.Native.Nat.{ℕ, _-_, _≤_}
 use native.Mathlib.Omega.{arith}
-use lib.ListN.{length}
-use borrow.Author.Needs.{needs}
 use Rattle.from_array.specs.Written.{Holds}
 use Rattle.from_array.proofs.Writing.{holds-none, holds-more}
-use Rattle.from_array.proofs.reconstruct.write_zeros.Statement.{statement}
-use Rattle.from_array.proofs.reconstruct.write_zeros.Tie as tie
+use Rattle.from_array.proofs.text.write_zeros.Statement.{statement}
+use Rattle.from_array.proofs.text.write_zeros.Tie as tie
 
 abbrev Inv-loop : tie.InvT-loop
 Inv-loop text₀ n j₀ text j = Holds (λ k. 0) j text₀ text × (j ≤ n)

@@ -1,21 +1,19 @@
--- `from_array::reconstruct::write_letters` meets its contract. The loop's invariant: the positions before `i` have their letters, the others
+-- `from_array::text::write_letters` meets its contract. The loop's invariant: the positions before `i` have their letters, the others
 -- the number of spans that hold them where the innermost of these had its turn.
 -- Assumes nothing.
-use mathlib.Core.Path.{_≡_, refl, sym, ap, subst, _∙_}
+use mathlib.Core.Path.{_≡_, sym, ap, subst, _∙_}
 use mathlib.Core.List.{List}
 use Prim.Native.Nat.{ℕ, _+_, _-_, _<_, _≤_}
 use native.Mathlib.Omega.{arith}
 use lib.ListN.{length, getD, set}
-use borrow.Author.Needs.{needs}
 use Rattle.words.specs.ValidArray.{holding, letterFor}
-use Rattle.words.specs.ArrayForest.{endOf}
 use Rattle.words.specs.Laws.ValidSpans.{end-inside}
 use Rattle.words.specs.Laws.ValidText.{depth-at-most, depth-of-root, depth-of-child, letter-below}
 use Rattle.from_array.specs.Written.{Room, Holds, Marked}
 use Rattle.from_array.proofs.Writing.{Stored, stored, holds-after}
 use Rattle.from_array.proofs.Filling.{Filling, filling-starts, filling-here, filling-goes-on, filling-ends}
-use Rattle.from_array.proofs.reconstruct.write_letters.Statement.{statement}
-use Rattle.from_array.proofs.reconstruct.write_letters.Tie as tie
+use Rattle.from_array.proofs.text.write_letters.Statement.{statement}
+use Rattle.from_array.proofs.text.write_letters.Tie as tie
 
 -- The number of earlier spans that hold a position.
 abbrev depth : List ℕ → ℕ → ℕ

@@ -1,16 +1,15 @@
--- `from_array::right_forest::write_past` meets its contract. The loop's invariant: the places passed hold PAST.
+-- `from_array::forest::write_past` meets its contract. The loop's invariant: the places passed hold PAST.
 -- Assumes nothing.
 use mathlib.Core.Path.{_≡_, subst}
 use mathlib.Core.List.{List}
 use Prim.Native.Nat.{ℕ, _-_, _<_, _≤_}
 use native.Mathlib.Omega.{arith}
-use lib.ListN.{length, getD}
-use borrow.Author.Needs.{needs}
-use Rattle.words.specs.ArrayForest.{firstFor, pastFor}
+use lib.ListN.{length}
+use Rattle.words.specs.ArrayForest.{pastFor}
 use Rattle.from_array.specs.Written.{Room, Holds}
 use Rattle.from_array.proofs.Writing.{holds-none, holds-more}
-use Rattle.from_array.proofs.right_forest.write_past.Statement.{statement}
-use Rattle.from_array.proofs.right_forest.write_past.Tie as tie
+use Rattle.from_array.proofs.forest.write_past.Statement.{statement}
+use Rattle.from_array.proofs.forest.write_past.Tie as tie
 
 abbrev Inv-loop : tie.InvT-loop
 Inv-loop array first past₀ j₀ past j = Holds (pastFor array) j past₀ past × (j ≤ length array)
