@@ -24,3 +24,9 @@ pub mod Repetition
 pub mod LowestSuffix
 pub mod LongestEnding
 pub mod LeftForest
+pub mod ValidSpans
+pub mod Pigeonhole
+pub mod ValidText
+pub mod ArrayValid
+pub mod ArrayFactors
+pub mod ArrayForest

@@ -11,6 +11,9 @@ pub mod RightForest
 pub mod LeftForest
 pub mod Runs
 pub mod ValidArray
+pub mod ArrayForest
+pub mod Permutation
 pub mod Laws
 pub mod Compute
 pub mod ExactlyOne
+pub mod ArrayTheorems

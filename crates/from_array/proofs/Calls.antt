@@ -1,0 +1,49 @@
+-- What an answer leaves in a buffer, and what an accepted array is.
+-- Assumes nothing.
+use mathlib.Core.Path.{_≡_, refl, sym, ap, subst, _∙_}
+use mathlib.Core.List.{List}
+use Prim.Native.Nat.{ℕ}
+use native.Mathlib.Omega.{arith}
+use lib.ListN.{length}
+use Rattle.words.specs.ValidArray.{Valid}
+use Rattle.words.specs.Compute.ValidArray.{Verdict, fits, fault, HasVerdict, checkArray, checkArray-right}
+use Rattle.answer.specs.declared.Answer.{Answer}
+use Rattle.answer.specs.declared.Outcome.{Outcome}
+use Rattle.answer.specs.declared.Outcome.the-variants.{Accepted, Refused}
+use Rattle.answer.specs.declared.Reason.{Reason}
+use Rattle.answer.specs.Answers.{acceptedWith, refusedFor}
+use Rattle.answer.specs.Checks.{written, contentIn, contentAfter}
+use Rattle.from_array.specs.Answers.{verdictAnswer, arrayChecked}
+
+-- A buffer after a refusal, and after an acceptance.
+pub content-refused : {r : Answer} {reason : Reason} {position : ℕ} (l before : List ℕ) → r ≡ refusedFor reason position
+    → before ≡ contentAfter r l before
+content-refused l before e = sym (ap (λ (q : Answer). contentAfter q l before) e)
+
+pub content-told : {o : Outcome} {reason : Reason} {position : ℕ} (l before : List ℕ) → o ≡ Refused reason position
+    → before ≡ contentIn o l before
+content-told l before e = sym (ap (λ (q : Outcome). contentIn q l before) e)
+
+pub content-accepted : {r : Answer} {count : ℕ} (l before : List ℕ) → r ≡ acceptedWith count → written l before ≡ contentAfter r l before
+content-accepted l before e = sym (ap (λ (q : Answer). contentAfter q l before) e)
+
+-- An accepted array is valid, and the count is its length.
+pub record Accepting (a : List ℕ) (count : ℕ) : Type 0 where
+  pub valid : Valid a
+  pub counted : count ≡ length a
+  pub answered : arrayChecked a ≡ acceptedWith (length a)
+
+pub accepting : (a : List ℕ) (r : Answer) (count : ℕ) → r ≡ arrayChecked a → r .outcome ≡ Accepted count → Accepting a count
+accepting a r count e o = go (checkArray a) refl (checkArray-right a)
+  where
+    told : Accepted count ≡ arrayChecked a .outcome
+    told = sym o ∙ ap (λ (q : Answer). q .outcome) e
+
+    go : (v : Verdict) → checkArray a ≡ v → HasVerdict a (checkArray a) → Accepting a count
+    go fits q h =
+        let z : Accepted count ≡ Accepted (length a) = told ∙ ap (λ (w : Verdict). verdictAnswer (length a) w .outcome) q in
+        record { valid = subst (HasVerdict a) q h; counted = cc; answered = ap (verdictAnswer (length a)) q }
+    go (fault f i) q h = absurd (differ (told ∙ ap (λ (w : Verdict). verdictAnswer (length a) w .outcome) q))
+      where
+        differ : {reason : Reason} {position : ℕ} → Accepted count ≡ Refused reason position → ⊥
+        differ z = let n : _≡_ {A = ℕ} 0 1 = cc in omega arith

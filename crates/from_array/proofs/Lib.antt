@@ -1,0 +1,5 @@
+pub mod Crossings
+pub mod Verdicts
+pub mod Writing
+pub mod Filling
+pub mod Calls

@@ -1,0 +1,118 @@
+-- `from_array::mark::mark` meets its contract. The loop's invariant is that of marking; the measure is what is left of the span.
+-- Assumes nothing.
+use mathlib.Core.Path.{_≡_}
+use mathlib.Core.List.{List}
+use Prim.Native.Nat.{ℕ, _-_, _<_, _≤_}
+use native.Mathlib.Omega.{arith}
+use lib.ListN.{length}
+use borrow.Author.Needs.{needs}
+use Rattle.words.specs.ValidArray.{Valid}
+use Rattle.words.specs.ArrayForest.{endOf}
+use Rattle.from_array.proofs.Writing.{Marking, marking-starts, marking-inside, marking-rises, marking-goes-on, marking-ends}
+use Rattle.from_array.proofs.mark.mark.Statement.{statement}
+use Rattle.from_array.proofs.mark.mark.Tie as tie
+
+abbrev Inv-loop : tie.InvT-loop
+Inv-loop array out₀ i value end k₀ out k = Marking array i value k out₀ out
+
+abbrev μ-loop : tie.MeasureT-loop
+μ-loop array out₀ i value end k₀ out k = end - k
+
+-- The array, the buffer as it was, the position whose span holds what is marked, and where that span ends.
+abbrev a : tie.After-end-of Inv-loop μ-loop → List ℕ
+a c = c .before .before .before .args .array .now
+
+abbrev before : tie.After-end-of Inv-loop μ-loop → List ℕ
+before c = c .before .before .before .args .out .now
+
+abbrev i : tie.After-end-of Inv-loop μ-loop → ℕ
+i c = c .before .before .before .args .i
+
+abbrev value : tie.After-end-of Inv-loop μ-loop → ℕ
+value c = c .before .before .before .args .value
+
+valid : (c : tie.After-end-of Inv-loop μ-loop) → Valid (a c)
+valid c = c .before .before .before .pre .0 .valid
+
+room : (c : tie.After-end-of Inv-loop μ-loop) → length (a c) ≤ length (before c)
+room c = c .before .before .before .pre .0 .fits
+
+inside : (c : tie.After-end-of Inv-loop μ-loop) → i c < length (a c)
+inside c = c .before .before .before .pre .1
+
+end-is : (c : tie.After-end-of Inv-loop μ-loop) → c .end-of .result ≡ endOf (a c) (i c)
+end-is c = c .end-of .ensures
+
+-- In a turn the position that is marked stands before that end, so in the array.
+before-end : (c : tie.In-loop Inv-loop μ-loop) → c .before .loop .k < endOf (a (c .before .before)) (i (c .before .before))
+before-end c = rw (← end-is (c .before .before)) (c .loop-test .taken)
+
+in-array : (c : tie.In-loop Inv-loop μ-loop) → c .before .loop .k < length (a (c .before .before))
+in-array c =
+    let w = c .before .before in
+    marking-inside (a w) (valid w) (i w) (value w) (inside w) (before w) (c .before .loop .k) (before-end c)
+
+end-of-requires : tie.Need-end-of-requires Inv-loop μ-loop
+end-of-requires c κs = search needs
+
+add-k : tie.Need-add-k Inv-loop μ-loop
+add-k c = omega (arith, inside c)
+
+loop-holds : tie.Need-loop-holds Inv-loop μ-loop
+loop-holds c = marking-starts (a c) (valid c) (i c) (value c) (inside c) (before c)
+
+mul-out : tie.Need-mul-out Inv-loop μ-loop
+mul-out c = omega (arith, in-array c, room (c .before .before), c .before .before .before .before .before .good)
+
+slice-write-out : tie.Need-slice-write-out Inv-loop μ-loop
+slice-write-out c = omega (arith, in-array c, room (c .before .before), c .before .loop .inv .size)
+
+end-of-requires-2 : tie.Need-end-of-requires-2 Inv-loop μ-loop
+end-of-requires-2 c κs = in-array c
+
+loop-less : tie.Need-loop-less Inv-loop μ-loop
+loop-less c =
+    let turn = c .before in
+    let w = turn .before .before in
+    omega (
+      arith,
+      marking-rises (a w) (valid w) (i w) (value w) (inside w) (before w) (turn .before .loop .k) (before-end turn),
+      turn .loop-test .taken,
+      c .end-of2 .ensures,
+    )
+
+loop-again : tie.Need-loop-again Inv-loop μ-loop
+loop-again c =
+    let turn = c .before in
+    let w = turn .before .before in
+    rw (c .end-of2 .ensures)
+    (marking-goes-on (a w) (valid w) (i w) (value w) (inside w) (before w) (turn .before .loop .k) (turn .before .loop .out)
+    (turn .before .loop .inv)
+    (before-end turn)
+    (room w))
+
+same-length : tie.Need-same-length Inv-loop μ-loop
+same-length c = c .before .loop .inv .size
+
+returns : tie.Need-returns Inv-loop μ-loop
+returns c =
+    let w = c .before .before in
+    marking-ends (a w) (valid w) (i w) (value w) (inside w) (before w) (c .before .loop .k) (c .before .loop .out) (c .before .loop .inv)
+    (omega (arith, c .loop-test .left, end-is w))
+
+pub mark-spec : {M : Type 1} → statement M
+mark-spec =
+    tie.close
+    (tie.spec
+    Inv-loop
+    μ-loop
+    end-of-requires
+    add-k
+    loop-holds
+    mul-out
+    slice-write-out
+    end-of-requires-2
+    loop-less
+    loop-again
+    same-length
+    returns)

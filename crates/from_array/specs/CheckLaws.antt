@@ -1,0 +1,26 @@
+-- The checks of length and buffers, where they refuse and where they pass.
+-- Assumes nothing.
+use mathlib.Core.Path.{_≡_}
+use Prim.Native.Nat.{ℕ, _<_, _≤_}
+use borrow.Author.Tests.{lt-ltb, le-ltb, eq-eqb, ne-eqb}
+use Rattle.answer.specs.declared.Answer.{Answer}
+use Rattle.answer.specs.declared.Reason.the-variants.{EmptyInput, TooLong, ShortOutput}
+use Rattle.answer.specs.Answers.{refusedFor}
+use Rattle.answer.specs.Limits.{maxLength}
+use Rattle.answer.specs.Checks.{lengthChecked, outputChecked}
+
+module _ (n : ℕ) (rest : Answer) where
+  pub length-empty : n ≡ 0 → lengthChecked n rest ≡ refusedFor EmptyInput 0
+  length-empty e = simp (eq-eqb n 0 e)
+
+  pub length-over : ¬ (n ≡ 0) → maxLength < n → lengthChecked n rest ≡ refusedFor TooLong 0
+  length-over d h = simp (ne-eqb n 0 d, lt-ltb maxLength n h)
+
+  pub length-passes : ¬ (n ≡ 0) → n ≤ maxLength → lengthChecked n rest ≡ rest
+  length-passes d h = simp (ne-eqb n 0 d, le-ltb maxLength n h)
+
+  pub output-short : (given : ℕ) → given < n → outputChecked n given rest ≡ refusedFor ShortOutput 0
+  output-short given h = simp (lt-ltb given n h)
+
+  pub output-passes : (given : ℕ) → n ≤ given → outputChecked n given rest ≡ rest
+  output-passes given h = simp (le-ltb given n h)

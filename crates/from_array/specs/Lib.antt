@@ -1,0 +1,5 @@
+pub mod Answers
+pub mod CheckLaws
+pub mod Theorems
+pub mod Checked
+pub mod Written

@@ -1,0 +1,13 @@
+// What can be said of an array alone: the right forest of every text that has it, and a text that
+// has it. Each is a public call with no `requires`; both refuse an array that no text has.
+//
+// Contracts cite `specs/Answers.antt` and the definitions of `words`. Nothing is assumed.
+mod check;
+mod entries;
+mod forest;
+mod mark;
+mod spans;
+mod text;
+
+pub use forest::right_forest;
+pub use text::reconstruct;
