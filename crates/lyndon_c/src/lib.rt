@@ -9,6 +9,9 @@ ghost use Rattle.answer.specs.Checks.{contentAfter};
 ghost use Rattle.array.specs.Calls.{arrayAnswer, runsAnswer, runNumbers, bothArrays};
 ghost use Rattle.factors.specs.Default.{decided-default};
 ghost use Rattle.factors.specs.Answers.{factorizationAnswer, suffixTableAnswer, leftForestAnswer};
+ghost use Rattle.from_array.specs.Answers.{reconstructAnswer, rightForestAnswer};
+ghost use Rattle.words.specs.ArrayForest.{forestFirst, forestPast};
+ghost use Rattle.words.specs.ValidArray.{textFor};
 ghost use Rattle.words.specs.Letters.{decided-order};
 ghost use Rattle.words.specs.Compute.LyndonArray.{arrayOf};
 ghost use Rattle.words.specs.Compute.Factorization.{factorizationOf};
@@ -79,10 +82,37 @@ pub extern "C" fn lyndon_suffix_table(text: &[u8], out: &mut [u32]) -> LyndonAns
 
 // The left Lyndon forest of a text of bytes.
 #[no_mangle]
-pub extern "C" fn lyndon_left_forest(text: &[u8], first: &mut [u32], past: &mut [u32]) -> LyndonAnswer
+pub extern "C" fn lyndon_left_forest(
+    text: &[u8],
+    first: &mut [u32],
+    past: &mut [u32],
+) -> LyndonAnswer
     ensures answer { λ r. ⌜ r ≡ recordOf (leftForestAnswer (now (text .entry)) (length (now (first .entry))) (length (now (past .entry)))) ⌝ }
     ensures starts { λ r. ⌜ now (first .exit) ≡ contentAfter (leftForestAnswer (now (text .entry)) (length (now (first .entry))) (length (now (past .entry)))) (leftFirstOf decided-default (now (text .entry)) (factorizationOf decided-default (now (text .entry)))) (now (first .entry)) ⌝ }
     ensures ends { λ r. ⌜ now (past .exit) ≡ contentAfter (leftForestAnswer (now (text .entry)) (length (now (first .entry))) (length (now (past .entry)))) (leftPastOf decided-default (now (text .entry)) (factorizationOf decided-default (now (text .entry)))) (now (past .entry)) ⌝ }
 {
     exported(factors::left_forest::left_forest(text, first, past))
+}
+
+// The right Lyndon forest of every text that has the array.
+#[no_mangle]
+pub extern "C" fn lyndon_right_forest(
+    array: &[u32],
+    first: &mut [u32],
+    past: &mut [u32],
+) -> LyndonAnswer
+    ensures answer { λ r. ⌜ r ≡ recordOf (rightForestAnswer (now (array .entry)) (length (now (first .entry))) (length (now (past .entry)))) ⌝ }
+    ensures starts { λ r. ⌜ now (first .exit) ≡ contentAfter (rightForestAnswer (now (array .entry)) (length (now (first .entry))) (length (now (past .entry)))) (forestFirst (now (array .entry))) (now (first .entry)) ⌝ }
+    ensures ends { λ r. ⌜ now (past .exit) ≡ contentAfter (rightForestAnswer (now (array .entry)) (length (now (first .entry))) (length (now (past .entry)))) (forestPast (now (array .entry))) (now (past .entry)) ⌝ }
+{
+    exported(from_array::right_forest(array, first, past))
+}
+
+// A text of 32-bit letters that has the array.
+#[no_mangle]
+pub extern "C" fn lyndon_reconstruct(array: &[u32], text: &mut [u32]) -> LyndonAnswer
+    ensures answer { λ r. ⌜ r ≡ recordOf (reconstructAnswer (now (array .entry)) (length (now (text .entry)))) ⌝ }
+    ensures content { λ r. ⌜ now (text .exit) ≡ contentAfter (reconstructAnswer (now (array .entry)) (length (now (text .entry)))) (textFor (now (array .entry))) (now (text .entry)) ⌝ }
+{
+    exported(from_array::reconstruct(array, text))
 }
