@@ -1,6 +1,6 @@
 -- The bytes of a FASTA input, sorted by their numbers.
 -- Assumes nothing.
-use mathlib.Core.Bool.{Bool, true, false, _&&_, _||_}
+use mathlib.Core.Bool.{Bool, false, cond, _&&_, _||_}
 use mathlib.Core.List.{List, [], _∷_}
 use Prim.Native.Nat.{ℕ}
 use lib.Dec.{leb, eqb}
@@ -13,31 +13,23 @@ use Rattle.fasta.specs.declared.bytes.NameByte.the-variants.{Part, Past,
 abbrev pub within : ℕ → ℕ → ℕ → Bool
 within low high b = leb low b && leb b high
 
-abbrev pub pickKind : Bool → Kind → Kind → Kind
-pickKind true k l = k
-pickKind false k l = l
-
 -- In sequence lines: A to Z and a to z are letters, 10 is LF, 13 is CR, 62 is '>'.
 abbrev pub kindOf : ℕ → Kind
 kindOf b =
-    pickKind (within 65 90 b || within 97 122 b) Letter
-    (pickKind (eqb b 10) LineEnd
-    (pickKind (eqb b 13) CarriageReturn
-    (pickKind (eqb b 62) HeaderMark Unfit)))
+    cond (within 65 90 b || within 97 122 b) Letter
+    (cond (eqb b 10) LineEnd
+    (cond (eqb b 13) CarriageReturn
+    (cond (eqb b 62) HeaderMark Unfit)))
 
 -- The letter that the reader hands on for a letter of the input: "kept as they are".
 abbrev pub letterOf : ℕ → ℕ
 letterOf b = b
 
-abbrev pub pickNameByte : Bool → NameByte → NameByte → NameByte
-pickNameByte true k l = k
-pickNameByte false k l = l
-
 -- In a name: space, tab, CR and LF end it, 33 to 126 are its bytes.
 abbrev pub nameByteOf : ℕ → NameByte
 nameByteOf b =
-    pickNameByte (eqb b 32 || (eqb b 9 || (eqb b 13 || eqb b 10))) Past
-    (pickNameByte (within 33 126 b) Part Foreign)
+    cond (eqb b 32 || (eqb b 9 || (eqb b 13 || eqb b 10))) Past
+    (cond (within 33 126 b) Part Foreign)
 
 -- The first of the bytes s is b.
 abbrev pub startsWith : ℕ → List ℕ → Bool

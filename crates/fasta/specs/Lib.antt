@@ -2,3 +2,4 @@ pub mod Bytes
 pub mod Name
 pub mod Lines
 pub mod Reader
+pub mod Laws

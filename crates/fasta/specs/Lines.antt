@@ -1,9 +1,10 @@
 -- The sequence lines of a FASTA record.
 -- Assumes nothing.
-use mathlib.Core.Bool.{Bool, true, false}
+use mathlib.Core.Bool.{Bool, true, false, cond}
 use mathlib.Core.List.{List, [], _∷_}
 use Prim.Native.Nat.{ℕ, suc}
 use lib.Dec.{ltb, eqb}
+use lib.ListN.{getD}
 use Rattle.answer.specs.declared.Reason.the-variants.{UnfitByte, TooManyLetters}
 use Rattle.answer.specs.Limits.{maxLetters}
 use Rattle.fasta.specs.declared.bytes.Kind.{Kind}
@@ -17,18 +18,14 @@ use Rattle.fasta.specs.Bytes.{kindOf, letterOf, lineEnd, startsWith}
 -- The position past the line whose bytes from position p on begin s: past its LF, or the end.
 abbrev pub afterLine : ℕ → List ℕ → ℕ
 afterLine p [] = p
-afterLine p (b ∷ s) = elim (eqb b lineEnd) [ true ↦ suc p | false ↦ afterLine (suc p) s ]
-
-abbrev pub pickStep : Bool → Step → Step → Step
-pickStep true k l = k
-pickStep false k l = l
+afterLine p (b ∷ s) = cond (eqb b lineEnd) (suc p) (afterLine (suc p) s)
 
 -- What a byte of this kind at position p does, inside a line or at the start of one, after count letters and before the bytes s.
 abbrev pub stepFor : Kind → ℕ → Bool → ℕ → List ℕ → Step
-stepFor Letter p inside count s = pickStep (ltb count maxLetters) (On true (suc count)) (Off (Stopped TooManyLetters p))
+stepFor Letter p inside count s = cond (ltb count maxLetters) (On true (suc count)) (Off (Stopped TooManyLetters p))
 stepFor LineEnd p inside count s = On false count
-stepFor CarriageReturn p inside count s = pickStep (startsWith lineEnd s) (On true count) (Off (Stopped UnfitByte p))
-stepFor HeaderMark p inside count s = pickStep inside (Off (Stopped UnfitByte p)) (Off (NextRecord count p))
+stepFor CarriageReturn p inside count s = cond (startsWith lineEnd s) (On true count) (Off (Stopped UnfitByte p))
+stepFor HeaderMark p inside count s = cond inside (Off (Stopped UnfitByte p)) (Off (NextRecord count p))
 stepFor Unfit p inside count s = Off (Stopped UnfitByte p)
 
 -- How the sequence lines s end that start at position p, inside a line or at the start of one, after count letters.
@@ -49,3 +46,7 @@ letterBefore Unfit b l = l
 abbrev pub lettersIn : List ℕ → List ℕ
 lettersIn [] = []
 lettersIn (b ∷ s) = letterBefore (kindOf b) b (lettersIn s)
+
+-- The letter at position p of x, if one stands there.
+abbrev pub letterAt : List ℕ → ℕ → List ℕ
+letterAt x p = letterBefore (kindOf (getD x p 0)) (getD x p 0) []

@@ -1,6 +1,6 @@
 -- The name of a FASTA record: "1 to 60 bytes from 33 to 126 (decimal), ended by space, tab, CR, LF or the end".
 -- Assumes nothing.
-use mathlib.Core.Bool.{Bool, true, false}
+use mathlib.Core.Bool.{cond}
 use mathlib.Core.List.{List, [], _∷_}
 use Prim.Native.Nat.{ℕ, suc}
 use lib.Dec.{ltb, eqb}
@@ -15,17 +15,13 @@ use Rattle.fasta.specs.Bytes.{nameByteOf}
 abbrev pub maxName : ℕ
 maxName = 60
 
-abbrev pub pickName : Bool → Name → Name → Name
-pickName true n m = n
-pickName false n m = m
-
 -- A name of count bytes that is over at position p: none is empty.
 abbrev pub nameOver : ℕ → ℕ → Name
-nameOver p count = pickName (eqb count 0) (Misnamed p) (Named p)
+nameOver p count = cond (eqb count 0) (Misnamed p) (Named p)
 
 -- What a byte at position p is to a name of count bytes before it; rest is what the bytes after it make of the name.
 abbrev pub nameStep : NameByte → ℕ → ℕ → Name → Name
-nameStep Part p count rest = pickName (ltb count maxName) rest (Misnamed p)
+nameStep Part p count rest = cond (ltb count maxName) rest (Misnamed p)
 nameStep Past p count rest = nameOver p count
 nameStep Foreign p count rest = Misnamed p
 

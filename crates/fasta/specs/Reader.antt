@@ -1,7 +1,7 @@
 -- What the FASTA reader answers and which letters it writes (document 01, "The FASTA reader and the repeat lister"; rows 4 and 9 to 15 of its table).
 -- Assumes nothing.
-use mathlib.Core.Bool.{Bool, true, false}
-use mathlib.Core.List.{List, [], _∷_}
+use mathlib.Core.Bool.{false, cond}
+use mathlib.Core.List.{List}
 use Prim.Native.Nat.{ℕ, suc}
 use lib.Dec.{ltb, eqb}
 use lib.ListN.{length, drop}
@@ -20,7 +20,7 @@ use Rattle.fasta.specs.Lines.{afterLine, linesFrom, lettersIn}
 
 -- Refusal 9: byte 0 of a record that starts at p and whose bytes are s.
 abbrev pub headerChecked : ℕ → List ℕ → Ending → Ending
-headerChecked p s rest = elim (startsWith headerMark s) [ true ↦ rest | false ↦ Stopped NoHeader p ]
+headerChecked p s rest = cond (startsWith headerMark s) rest (Stopped NoHeader p)
 
 -- Refusal 10: the name.
 abbrev pub nameChecked : Name → Ending → Ending

@@ -1,5 +1,18 @@
 // The sequence lines of a record. Contracts cite `specs/Lines.antt`. Nothing is assumed.
+ghost use mathlib.Core.Path.{_≡_};
+ghost use mathlib.Core.Bool.{false};
+ghost use Prim.Native.Nat.{_+_, _≤_, _<_};
+ghost use lib.ListN.{length, getD, drop};
+ghost use lib.Seq.{sets};
+ghost use Rattle.answer.specs.Limits.{maxInput};
+ghost use Rattle.fasta.specs.Bytes.{kindOf, startsWith, lineEnd};
+ghost use Rattle.fasta.specs.Lines.{afterLine, stepFor, linesFrom, letterAt, lettersIn};
 use answer::Reason;
+use answer::limits::max_letters;
+use crate::bytes::{Kind, kind_at, letter_of};
+
+// LF.
+const LINE_END: u8 = 10;
 
 // How a record ends.
 pub enum Ending {
@@ -17,4 +30,149 @@ pub enum Step {
     On { inside: bool, count: u32 },
     // The record ends.
     Off { ending: Ending },
+}
+
+// Where the line ends whose bytes from `from` on are left: past its LF, or the input's end.
+pub(crate) fn after_line(input: &[u8], from: usize) -> usize
+    requires { ⌜ from ≤ length (now input) ⌝ }
+    ensures { λ r. ⌜ r ≡ afterLine from (drop from (now (input .entry))) ⌝ }
+{
+    let mut at = from;
+    while at < input.len() {
+        if input[at] == LINE_END {
+            return at + 1;
+        }
+        at += 1;
+    }
+    at
+}
+
+// Whether LF stands at `at`.
+fn line_end_at(input: &[u8], at: usize) -> bool
+    ensures { λ r. ⌜ r ≡ startsWith lineEnd (drop at (now (input .entry))) ⌝ }
+{
+    if at < input.len() {
+        input[at] == LINE_END
+    } else {
+        false
+    }
+}
+
+// What the byte at `at` does, inside a line or at the start of one, after `count` letters.
+fn step_at(input: &[u8], at: usize, inside: bool, count: u32) -> Step
+    requires { ⌜ at < length (now input) ⌝ }
+    requires { ⌜ length (now input) ≤ maxInput ⌝ }
+    ensures { λ r. ⌜ r ≡ stepFor (kindOf (getD (now (input .entry)) at 0)) at inside count (drop (at + 1) (now (input .entry))) ⌝ }
+{
+    let kind = kind_at(input, at);
+    let position = at as u32;
+    let unfit = Ending::Stopped {
+        reason: Reason::UnfitByte,
+        position,
+    };
+    match kind {
+        Kind::Letter => {
+            if (count as usize) < max_letters() {
+                Step::On {
+                    inside: true,
+                    count: count + 1,
+                }
+            } else {
+                Step::Off {
+                    ending: Ending::Stopped {
+                        reason: Reason::TooManyLetters,
+                        position,
+                    },
+                }
+            }
+        }
+        Kind::LineEnd => Step::On {
+            inside: false,
+            count,
+        },
+        Kind::CarriageReturn => {
+            if line_end_at(input, at + 1) {
+                Step::On {
+                    inside: true,
+                    count,
+                }
+            } else {
+                Step::Off { ending: unfit }
+            }
+        }
+        Kind::HeaderMark => {
+            if inside {
+                Step::Off { ending: unfit }
+            } else {
+                Step::Off {
+                    ending: Ending::NextRecord { count, position },
+                }
+            }
+        }
+        Kind::Unfit => Step::Off { ending: unfit },
+    }
+}
+
+// How the sequence lines end that start at `from`.
+pub(crate) fn lines_from(input: &[u8], from: usize) -> Ending
+    requires { ⌜ from ≤ length (now input) ⌝ }
+    requires { ⌜ length (now input) ≤ maxInput ⌝ }
+    ensures { λ r. ⌜ r ≡ linesFrom from false 0 (drop from (now (input .entry))) ⌝ }
+{
+    let mut at = from;
+    let mut inside = false;
+    let mut count: u32 = 0;
+    while at < input.len() {
+        let step = step_at(input, at, inside, count);
+        match step {
+            Step::On {
+                inside: next_inside,
+                count: next_count,
+            } => {
+                inside = next_inside;
+                count = next_count;
+            }
+            Step::Off { ending } => return ending,
+        }
+        at += 1;
+    }
+    Ending::Finished {
+        count,
+        position: at as u32,
+    }
+}
+
+// Puts the byte at `at` behind the `count` letters that `letters` holds, where it is a letter, and
+// returns how many it holds then.
+fn keep_letter(input: &[u8], at: usize, letters: &mut [u8], count: usize) -> usize
+    requires { ⌜ at < length (now input) ⌝ }
+    requires { ⌜ count + length (letterAt (now input) at) ≤ length (now letters) ⌝ }
+    ensures { λ r. ⌜ r ≡ count + length (letterAt (now (input .entry)) at) ⌝ }
+    ensures { λ _. ⌜ now (letters .exit) ≡ sets (now (letters .entry)) count (letterAt (now (input .entry)) at) ⌝ }
+{
+    let kind = kind_at(input, at);
+    match kind {
+        Kind::Letter => {
+            letters[count] = letter_of(input[at]);
+            count + 1
+        }
+        Kind::LineEnd => count,
+        Kind::CarriageReturn => count,
+        Kind::HeaderMark => count,
+        Kind::Unfit => count,
+    }
+}
+
+// Puts the letters of the sequence lines that start at `from` at the start of `letters`.
+pub(crate) fn write_letters(input: &[u8], from: usize, letters: &mut [u8])
+    requires { ⌜ from ≤ length (now input) ⌝ }
+    requires { ⌜ length (lettersIn (drop from (now input))) ≤ length (now letters) ⌝ }
+    ensures { λ _. ⌜ now (letters .exit) ≡ sets (now (letters .entry)) 0 (lettersIn (drop from (now (input .entry)))) ⌝ }
+{
+    let mut at = from;
+    let mut count = 0;
+    while at < input.len() {
+        count = keep_letter(input, at, letters, count);
+        at += 1;
+    }
 }

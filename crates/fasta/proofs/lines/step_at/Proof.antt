@@ -1,0 +1,124 @@
+-- `fasta::lines::step_at` meets its contract: each arm of the match is a case of the definition.
+-- Assumes nothing.
+use mathlib.Core.Path.{_≡_, sym, ap, _∙_}
+use mathlib.Core.Bool.{Bool}
+use mathlib.Core.List.{[]}
+use Prim.Native.Nat.{_+_}
+use native.Mathlib.Omega.{arith}
+use native.Mathlib.Numerals.{add-one}
+use borrow.Author.Tests.{lt-ltb, le-ltb}
+use lib.ListN.{getD, drop}
+use Rattle.answer.specs.Limits.{maxLetters}
+use Rattle.fasta.specs.declared.bytes.Kind.{Kind}
+use Rattle.fasta.specs.declared.bytes.Kind.the-variants.{HeaderMark}
+use Rattle.fasta.specs.Bytes.{kindOf}
+use Rattle.fasta.specs.Lines.{stepFor}
+use borrow.Author.Needs.{needs}
+use Rattle.fasta.proofs.lines.step_at.Statement.{statement}
+use Rattle.fasta.proofs.lines.step_at.Tie as tie
+
+-- The step goes by the kind of the byte.
+by-kind :
+    (c : tie.After-kind-at) {k : Kind} → c .kind-at .result ≡ k →
+    let args = c .before .before .args in
+    let x = args .input .now in
+    stepFor k (args .at) (args .inside) (args .count) (drop (args .at + 1) x)
+    ≡ stepFor (kindOf (getD x (args .at) 0)) (args .at) (args .inside) (args .count) (drop (args .at + 1) x)
+by-kind c e =
+    let args = c .before .before .args in
+    ap (λ (k : Kind). stepFor k (args .at) (args .inside) (args .count) (drop (args .at + 1) (args .input .now))) (sym e ∙ c .kind-at .ensures)
+
+kind-at-requires : tie.Need-kind-at-requires
+kind-at-requires c κs = search needs
+
+cast-position : tie.Need-cast-position
+cast-position c = search needs
+
+enum-told : tie.Need-enum-told
+enum-told c = search needs
+
+max-letters-requires : tie.Need-max-letters-requires
+max-letters-requires c κs = search needs
+
+add-t14 : tie.Need-add-t14
+add-t14 c = search needs
+
+enum-told-2 : tie.Need-enum-told-2
+enum-told-2 c = search needs
+
+enum-told-3 : tie.Need-enum-told-3
+enum-told-3 c = search needs
+
+add-line-end-at : tie.Need-add-line-end-at
+add-line-end-at c = search needs
+
+line-end-at-requires : tie.Need-line-end-at-requires
+line-end-at-requires c κs = search needs
+
+enum-told-4 : tie.Need-enum-told-4
+enum-told-4 c = search needs
+
+enum-told-5 : tie.Need-enum-told-5
+enum-told-5 c = search needs
+
+returns : tie.Need-returns
+returns c =
+    rw (lt-ltb (c .before .before .before .before .before .before .args .count) maxLetters (omega arith), ← add-one) at
+    (by-kind (c .before .before .before .before) (c .before .before .enum-told .given .1))
+
+returns-2 : tie.Need-returns-2
+returns-2 c =
+    rw (le-ltb (c .before .before .before .before .before .before .args .count) maxLetters (omega arith)) at
+    (by-kind (c .before .before .before .before) (c .before .before .enum-told .given .1))
+
+returns-3 : tie.Need-returns-3
+returns-3 c = by-kind (c .before .before) (c .enum-told2 .given .1)
+
+returns-4 : tie.Need-returns-4
+returns-4 c =
+    rw (sym (c .before .line-end-at .ensures) ∙ c .if2 .taken) at
+    (by-kind (c .before .before .before .before) (c .before .before .enum-told3 .given .1))
+
+returns-5 : tie.Need-returns-5
+returns-5 c =
+    rw (sym (c .before .line-end-at .ensures) ∙ c .if2 .left) at
+    (by-kind (c .before .before .before .before) (c .before .before .enum-told3 .given .1))
+
+returns-6 : tie.Need-returns-6
+returns-6 c =
+    let args = c .before .before .before .before .before .args in
+    ap (λ (i : Bool). stepFor HeaderMark (args .at) i (args .count) []) (sym (c .if3 .taken))
+    ∙ by-kind (c .before .before .before) (c .before .enum-told4 .given .1)
+
+returns-7 : tie.Need-returns-7
+returns-7 c =
+    let args = c .before .before .before .before .before .args in
+    ap (λ (i : Bool). stepFor HeaderMark (args .at) i (args .count) []) (sym (c .if3 .left))
+    ∙ by-kind (c .before .before .before) (c .before .enum-told4 .given .1)
+
+returns-8 : tie.Need-returns-8
+returns-8 c = by-kind (c .before .before) (c .enum-told5 .given .1)
+
+pub step-at-spec : {M : Type 1} → statement M
+step-at-spec =
+    tie.close
+    (tie.spec
+    kind-at-requires
+    cast-position
+    enum-told
+    max-letters-requires
+    add-t14
+    enum-told-2
+    enum-told-3
+    add-line-end-at
+    line-end-at-requires
+    enum-told-4
+    enum-told-5
+    returns
+    returns-2
+    returns-3
+    returns-4
+    returns-5
+    returns-6
+    returns-7
+    returns-8)
