@@ -1,8 +1,14 @@
 // The bytes of an input, sorted by their numbers. Contracts cite `specs/Bytes.antt`. Nothing is assumed.
 ghost use mathlib.Core.Path.{_≡_};
 ghost use Prim.Native.Nat.{_<_};
-ghost use lib.ListN.{length, getD};
-ghost use Rattle.fasta.specs.Bytes.{kindOf, letterOf, nameByteOf};
+ghost use lib.ListN.{length, getD, drop};
+ghost use Rattle.fasta.specs.Bytes.{kindOf, letterOf, nameByteOf, startsWith};
+
+// '>'.
+pub const HEADER_MARK: u8 = 62;
+
+// LF.
+pub const LINE_END: u8 = 10;
 
 // What a byte of the sequence lines is.
 pub enum Kind {
@@ -53,6 +59,17 @@ pub(crate) fn name_byte_at(input: &[u8], at: usize) -> NameByte
         32 | 9 | 13 | 10 => NameByte::Past,
         33..=126 => NameByte::Part,
         _ => NameByte::Foreign,
+    }
+}
+
+// Whether `byte` stands at `at`.
+pub fn stands_at(byte: u8, input: &[u8], at: usize) -> bool
+    ensures { λ r. ⌜ r ≡ startsWith byte (drop at (now (input .entry))) ⌝ }
+{
+    if at < input.len() {
+        input[at] == byte
+    } else {
+        false
     }
 }
 

@@ -5,14 +5,15 @@ ghost use Prim.Native.Nat.{_+_, _≤_, _<_};
 ghost use lib.ListN.{length, getD, drop};
 ghost use lib.Seq.{sets};
 ghost use Rattle.answer.specs.Limits.{maxInput};
-ghost use Rattle.fasta.specs.Bytes.{kindOf, startsWith, lineEnd};
+ghost use Rattle.fasta.specs.Bytes.{kindOf};
 ghost use Rattle.fasta.specs.Lines.{afterLine, stepFor, linesFrom, letterAt, lettersIn};
+use crate::bytes::Kind;
+use crate::bytes::LINE_END;
+use crate::bytes::kind_at;
+use crate::bytes::letter_of;
+use crate::bytes::stands_at;
 use answer::Reason;
 use answer::limits::max_letters;
-use crate::bytes::{Kind, kind_at, letter_of};
-
-// LF.
-const LINE_END: u8 = 10;
 
 // How a record ends.
 pub enum Ending {
@@ -45,17 +46,6 @@ pub(crate) fn after_line(input: &[u8], from: usize) -> usize
         at += 1;
     }
     at
-}
-
-// Whether LF stands at `at`.
-fn line_end_at(input: &[u8], at: usize) -> bool
-    ensures { λ r. ⌜ r ≡ startsWith lineEnd (drop at (now (input .entry))) ⌝ }
-{
-    if at < input.len() {
-        input[at] == LINE_END
-    } else {
-        false
-    }
 }
 
 // What the byte at `at` does, inside a line or at the start of one, after `count` letters.
@@ -91,7 +81,7 @@ fn step_at(input: &[u8], at: usize, inside: bool, count: u32) -> Step
             count,
         },
         Kind::CarriageReturn => {
-            if line_end_at(input, at + 1) {
+            if stands_at(LINE_END, input, at + 1) {
                 Step::On {
                     inside: true,
                     count,

@@ -4,7 +4,8 @@ ghost use Prim.Native.Nat.{_≤_};
 ghost use lib.ListN.{length, drop};
 ghost use Rattle.answer.specs.Limits.{maxInput};
 ghost use Rattle.fasta.specs.Name.{nameFrom, nameOver};
-use crate::bytes::{NameByte, name_byte_at};
+use crate::bytes::NameByte;
+use crate::bytes::name_byte_at;
 
 // The most bytes of a name.
 pub const MAX_NAME: usize = 60;
@@ -41,10 +42,14 @@ pub(crate) fn name_from(input: &[u8], from: usize) -> Name
         match byte {
             NameByte::Part => {}
             NameByte::Past => return name_over(at as u32, count),
-            NameByte::Foreign => return Name::Misnamed { position: at as u32 },
+            NameByte::Foreign => return Name::Misnamed {
+                position: at as u32,
+            },
         }
         if MAX_NAME <= count {
-            return Name::Misnamed { position: at as u32 };
+            return Name::Misnamed {
+                position: at as u32,
+            };
         }
         at += 1;
         count += 1;

@@ -49,7 +49,7 @@ loop-again c =
     let loop = seen .before .before .loop in (
       omega arith,
       sym (lines-on _ (loop .at) (seen .before .loop-test .taken) (loop .inside) (loop .count) (sym (seen .step-at .ensures) ∙ c .before .step .given .1))
-      ∙ loop .inv .1,
+          ∙ loop .inv .1,
     )
 
 cast-t12 : tie.Need-cast-t12 Inv-loop μ-loop

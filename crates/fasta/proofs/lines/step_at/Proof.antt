@@ -49,11 +49,11 @@ enum-told-2 c = search needs
 enum-told-3 : tie.Need-enum-told-3
 enum-told-3 c = search needs
 
-add-line-end-at : tie.Need-add-line-end-at
-add-line-end-at c = search needs
+add-stands-at : tie.Need-add-stands-at
+add-stands-at c = search needs
 
-line-end-at-requires : tie.Need-line-end-at-requires
-line-end-at-requires c κs = search needs
+stands-at-requires : tie.Need-stands-at-requires
+stands-at-requires c κs = search needs
 
 enum-told-4 : tie.Need-enum-told-4
 enum-told-4 c = search needs
@@ -76,12 +76,12 @@ returns-3 c = by-kind (c .before .before) (c .enum-told2 .given .1)
 
 returns-4 : tie.Need-returns-4
 returns-4 c =
-    rw (sym (c .before .line-end-at .ensures) ∙ c .if2 .taken) at
+    rw (sym (c .before .stands-at .ensures) ∙ c .if2 .taken) at
     (by-kind (c .before .before .before .before) (c .before .before .enum-told3 .given .1))
 
 returns-5 : tie.Need-returns-5
 returns-5 c =
-    rw (sym (c .before .line-end-at .ensures) ∙ c .if2 .left) at
+    rw (sym (c .before .stands-at .ensures) ∙ c .if2 .left) at
     (by-kind (c .before .before .before .before) (c .before .before .enum-told3 .given .1))
 
 returns-6 : tie.Need-returns-6
@@ -110,8 +110,8 @@ step-at-spec =
     add-t14
     enum-told-2
     enum-told-3
-    add-line-end-at
-    line-end-at-requires
+    add-stands-at
+    stands-at-requires
     enum-told-4
     enum-told-5
     returns

@@ -80,11 +80,11 @@ loop-less c = search needs
 
 loop-again : tie.Need-loop-again Inv-loop μ-loop
 loop-again c = (
-    omega arith,
-    omega arith,
-    rw (add-one, add-one)
-    (rw (lt-ltb _ maxName (c .if1 .left)) at (from-here (c .before .before .before) (c .before .enum-told .given .1))),
-  )
+  omega arith,
+  omega arith,
+  rw (add-one, add-one)
+      (rw (lt-ltb _ maxName (c .if1 .left)) at (from-here (c .before .before .before) (c .before .enum-told .given .1))),
+)
 
 cast-name-over-2 : tie.Need-cast-name-over-2 Inv-loop μ-loop
 cast-name-over-2 c = search needs

@@ -1,0 +1,200 @@
+-- What holds of an input that the reader accepts.
+-- Assumes nothing.
+use mathlib.Core.Path.{_≡_, refl, sym, ap, _∙_}
+use mathlib.Core.Bool.{Bool, true, false, cond}
+use mathlib.Core.List.{List, [], _∷_}
+use Prim.Native.Nat.{ℕ, zero, suc, _+_, _-_, _≤_, _<_}
+use native.Mathlib.Omega.{arith}
+use native.Mathlib.Decide.{decLt}
+use borrow.Author.Tests.{ltb-true, ltb-false, eqb-false}
+use lib.Dec.{ltb, eqb}
+use lib.ListN.{length, drop, length-drop, drop-of-length-le}
+use Rattle.answer.specs.declared.Answer.{Answer}
+use Rattle.answer.specs.declared.Reason.{Reason}
+use Rattle.answer.specs.declared.Reason.the-variants.{NoHeader, UnfitByte, TooManyLetters, NoLetters}
+use Rattle.answer.specs.declared.Outcome.{Outcome}
+use Rattle.answer.specs.declared.Outcome.the-variants.{Accepted, Refused}
+use Rattle.answer.specs.Answers.{acceptedWith, refusedFor}
+use Rattle.answer.specs.Checks.{pickAnswer}
+use Rattle.answer.specs.Limits.{maxLetters, maxInput}
+use Rattle.fasta.specs.declared.bytes.Kind.{Kind}
+use Rattle.fasta.specs.declared.bytes.Kind.the-variants.{Letter, LineEnd, CarriageReturn, HeaderMark, Unfit}
+use Rattle.fasta.specs.declared.bytes.NameByte.{NameByte}
+use Rattle.fasta.specs.declared.bytes.NameByte.the-variants.{Part, Past, Foreign}
+use Rattle.fasta.specs.declared.lines.Ending.{Ending}
+use Rattle.fasta.specs.declared.lines.Ending.the-variants.{Stopped, NextRecord, Finished}
+use Rattle.fasta.specs.declared.lines.Step.{Step}
+use Rattle.fasta.specs.declared.lines.Step.the-variants.{On, Off}
+use Rattle.fasta.specs.declared.name.Name.{Name}
+use Rattle.fasta.specs.declared.name.Name.the-variants.{Named, Misnamed}
+use Rattle.fasta.specs.Bytes.{kindOf, nameByteOf, headerMark, lineEnd, startsWith}
+use Rattle.fasta.specs.Name.{maxName, nameOver, nameStep, nameFrom, nameBefore, nameIn, recordName}
+use Rattle.fasta.specs.Lines.{afterLine, stepFor, linesFrom, letterBefore, lettersIn}
+use Rattle.fasta.specs.Reader.{nameChecked, linesStart, recordEnding, answerFor, lettersOf}
+
+-- A line ends within the input.
+afterLine-within : (p : ℕ) (s : List ℕ) → afterLine p s ≤ p + length s
+afterLine-within p [] = omega arith
+afterLine-within p (b ∷ s) = go (eqb b lineEnd) (afterLine-within (suc p) s)
+  where
+    go : (t : Bool) → afterLine (suc p) s ≤ suc p + length s → cond t (suc p) (afterLine (suc p) s) ≤ p + suc (length s)
+    go true h = omega arith
+    go false h = omega arith
+
+-- The sequence lines start within the input.
+pub linesStart-within : (x : List ℕ) (p : ℕ) → p ≤ length x → linesStart x p ≤ length x
+linesStart-within x p h = omega (arith, afterLine-within p (drop p x), length-drop p x)
+
+-- A position with a byte is inside the input.
+pub starts-inside : (b : ℕ) (x : List ℕ) (p : ℕ) → startsWith b (drop p x) ≡ true → p < length x
+starts-inside b x p h = go (decLt p (length x))
+  where
+    go : Dec (p < length x) → p < length x
+    go (yes l) = l
+    go (no n) =
+        let z : _≡_ {A = Bool} false true = ap (startsWith b) (sym (drop-of-length-le x {i = p} (omega arith))) ∙ h in
+        let y : _≡_ {A = ℕ} 0 1 = cc in
+        absurd (omega arith)
+
+not-stopped : {r : Reason} {p c q : ℕ} → Stopped r p ≡ Finished c q → ⊥
+not-stopped e = let z : _≡_ {A = ℕ} 0 1 = cc in omega arith
+
+not-next : {n p c q : ℕ} → NextRecord n p ≡ Finished c q → ⊥
+not-next e = let z : _≡_ {A = ℕ} 0 1 = cc in omega arith
+
+-- c is the number of letters l behind count, and not too many.
+pub record Counted (l : List ℕ) (count c : ℕ) : Type 0 where
+  pub counted : c ≡ count + length l
+  pub most : c ≤ maxLetters
+
+lines-step :
+    (s : List ℕ) (b p : ℕ) (inside : Bool) (count c q : ℕ) → count ≤ maxLetters
+    → ((i : Bool) (n : ℕ) → n ≤ maxLetters → linesFrom (suc p) i n s ≡ Finished c q → Counted (lettersIn s) n c)
+    → (k : Kind) → elim (stepFor k p inside count s) [ On i n ↦ linesFrom (suc p) i n s | Off z ↦ z ] ≡ Finished c q
+    → Counted (letterBefore k b (lettersIn s)) count c
+lines-step s b p inside count c q h rest Letter = go (ltb count maxLetters) refl
+  where
+    go : (t : Bool) → ltb count maxLetters ≡ t
+        → elim (cond t (On true (suc count)) (Off (Stopped TooManyLetters p))) [ On i n ↦ linesFrom (suc p) i n s | Off z ↦ z ] ≡ Finished c q
+        → Counted (letterBefore Letter b (lettersIn s)) count c
+    go true l e =
+        let r : Counted (lettersIn s) (suc count) c = rest true (suc count) (omega (arith, ltb-true count maxLetters l)) e in
+        record { counted = omega arith; most = r .most }
+    go false l e = absurd (not-stopped e)
+lines-step s b p inside count c q h rest LineEnd = λ e. rest false count h e
+lines-step s b p inside count c q h rest CarriageReturn = go (startsWith lineEnd s)
+  where
+    go : (t : Bool)
+        → elim (cond t (On true count) (Off (Stopped UnfitByte p))) [ On i n ↦ linesFrom (suc p) i n s | Off z ↦ z ] ≡ Finished c q
+        → Counted (lettersIn s) count c
+    go true e = rest true count h e
+    go false e = absurd (not-stopped e)
+lines-step s b p true count c q h rest HeaderMark = λ e. absurd (not-stopped e)
+lines-step s b p false count c q h rest HeaderMark = λ e. absurd (not-next e)
+lines-step s b p inside count c q h rest Unfit = λ e. absurd (not-stopped e)
+
+-- Lines that end with the input: the letters are counted.
+lines-finished :
+    (s : List ℕ) (p : ℕ) (inside : Bool) (count c q : ℕ) → count ≤ maxLetters → linesFrom p inside count s ≡ Finished c q
+    → Counted (lettersIn s) count c
+lines-finished [] p inside count c q h e =
+    let z : count ≡ c = cc in
+    record { counted = omega arith; most = omega arith }
+lines-finished (b ∷ s) p inside count c q h e =
+    lines-step s b p inside count c q h (λ i n. lines-finished s (suc p) i n c q) (kindOf b) e
+
+misnamed-named : {p q : ℕ} → Misnamed p ≡ Named q → ⊥
+misnamed-named e = let z : _≡_ {A = ℕ} 0 1 = cc in omega arith
+
+-- A name of l more bytes behind count, that is over at end.
+pub record OverAt (l : List ℕ) (p count end : ℕ) : Type 0 where
+  pub ends : end ≡ p + length l
+  pub some : 0 < count + length l
+  pub most : count + length l ≤ maxName
+
+name-over : (p count end : ℕ) → count ≤ maxName → nameOver p count ≡ Named end → OverAt [] p count end
+name-over p count end h = go (eqb count 0) refl
+  where
+    go : (t : Bool) → eqb count 0 ≡ t → cond t (Misnamed p) (Named p) ≡ Named end → OverAt [] p count end
+    go true l e = absurd (misnamed-named e)
+    go false l e =
+        let z : p ≡ end = cc in
+        let n : count ≡ 0 → ⊥ = eqb-false count 0 l in
+        record { ends = omega arith; some = omega arith; most = omega arith }
+
+name-step :
+    (s : List ℕ) (b p count end : ℕ) → count ≤ maxName
+    → (suc count ≤ maxName → nameFrom (suc p) (suc count) s ≡ Named end → OverAt (nameIn s) (suc p) (suc count) end)
+    → (k : NameByte) → nameStep k p count (nameFrom (suc p) (suc count) s) ≡ Named end → OverAt (nameBefore k b (nameIn s)) p count end
+name-step s b p count end h rest Part = go (ltb count maxName) refl
+  where
+    go : (t : Bool) → ltb count maxName ≡ t → cond t (nameFrom (suc p) (suc count) s) (Misnamed p) ≡ Named end
+        → OverAt (b ∷ nameIn s) p count end
+    go true l e =
+        let r : OverAt (nameIn s) (suc p) (suc count) end = rest (ltb-true count maxName l) e in
+        record { ends = omega arith; some = omega arith; most = omega arith }
+    go false l e = absurd (misnamed-named e)
+name-step s b p count end h rest Past = λ e. name-over p count end h e
+name-step s b p count end h rest Foreign = λ e. absurd (misnamed-named e)
+
+-- A name that is right has 1 to 60 bytes, and ends behind them.
+pub name-named :
+    (s : List ℕ) (p count end : ℕ) → count ≤ maxName → nameFrom p count s ≡ Named end → OverAt (nameIn s) p count end
+name-named [] p count end h e = name-over p count end h e
+name-named (b ∷ s) p count end h e =
+    name-step s b p count end h (λ l. name-named s (suc p) (suc count) end l) (nameByteOf b) e
+
+-- What is known of an accepted input x of count letters.
+pub record AcceptedInput (x : List ℕ) (count : ℕ) : Type 0 where
+  pub letters : length (lettersOf x) ≡ count
+  pub some : 0 < count
+  pub most : count ≤ maxLetters
+  pub name-some : 0 < length (recordName x 0)
+  pub name-most : length (recordName x 0) ≤ maxName
+
+-- An ending that is accepted is the input's end, after some letters.
+finished-accepted :
+    (e : Ending) (count : ℕ) → answerFor e .outcome ≡ Accepted count → (q : ℕ) × (e ≡ Finished count q) × (0 < count)
+finished-accepted (Stopped r p) count h = let z : _≡_ {A = ℕ} 0 1 = cc in absurd (omega arith)
+finished-accepted (NextRecord n p) count h = let z : _≡_ {A = ℕ} 0 1 = cc in absurd (omega arith)
+finished-accepted (Finished n p) count h = go (eqb n 0) refl h
+  where
+    go : (t : Bool) → eqb n 0 ≡ t → pickAnswer t (refusedFor NoLetters p) (acceptedWith n) .outcome ≡ Accepted count
+        → (q : ℕ) × (Finished n p ≡ Finished count q) × (0 < count)
+    go true l e = let z : _≡_ {A = ℕ} 0 1 = cc in absurd (omega arith)
+    go false l e =
+        let z : n ≡ count = cc in
+        let y : n ≡ 0 → ⊥ = eqb-false n 0 l in
+        (p, ap (λ (m : ℕ). Finished m p) z, omega arith)
+
+-- A record whose lines end with the input has a right name.
+pub record ReadWhole (x : List ℕ) (p c q : ℕ) : Type 0 where
+  pub end : ℕ
+  pub named : nameFrom (suc p) 0 (drop (suc p) x) ≡ Named end
+  pub lines : linesFrom (linesStart x p) false 0 (drop (linesStart x p) x) ≡ Finished c q
+
+record-finished : (x : List ℕ) (p c q : ℕ) → recordEnding x p ≡ Finished c q → ReadWhole x p c q
+record-finished x p c q = go (startsWith headerMark (drop p x)) (nameFrom (suc p) 0 (drop (suc p) x)) refl
+  where
+    go : (t : Bool) (n : Name) → nameFrom (suc p) 0 (drop (suc p) x) ≡ n
+        → cond t (nameChecked n (linesFrom (linesStart x p) false 0 (drop (linesStart x p) x))) (Stopped NoHeader p) ≡ Finished c q
+        → ReadWhole x p c q
+    go true (Named end) f e = record { end = end; named = f; lines = e }
+    go true (Misnamed at) f e = absurd (not-stopped e)
+    go false n f e = absurd (not-stopped e)
+
+-- What is known of an input whose record is accepted.
+pub accepted-input : (x : List ℕ) (count : ℕ) → answerFor (recordEnding x 0) .outcome ≡ Accepted count → AcceptedInput x count
+accepted-input x count h =
+    let f : (q : ℕ) × (recordEnding x 0 ≡ Finished count q) × (0 < count) = finished-accepted (recordEnding x 0) count h in
+    let w : ReadWhole x 0 count (f .0) = record-finished x 0 count (f .0) (f .1) in
+    let n : OverAt (recordName x 0) 1 0 (w .end) = name-named (drop 1 x) 1 0 (w .end) (omega arith) (w .named) in
+    let l : Counted (lettersOf x) 0 count =
+    lines-finished (drop (linesStart x 0) x) (linesStart x 0) false 0 count (f .0) (omega arith) (w .lines) in
+    record {
+      letters = omega arith;
+      some = f .2;
+      most = l .most;
+      name-some = omega arith;
+      name-most = omega arith;
+    }
