@@ -20,9 +20,13 @@ abbrev pub afterLine : ℕ → List ℕ → ℕ
 afterLine p [] = p
 afterLine p (b ∷ s) = cond (eqb b lineEnd) (suc p) (afterLine (suc p) s)
 
+-- What a letter at position p does after count letters.
+abbrev pub letterStep : ℕ → ℕ → Step
+letterStep p count = cond (ltb count maxLetters) (On true (suc count)) (Off (Stopped TooManyLetters p))
+
 -- What a byte of this kind at position p does, inside a line or at the start of one, after count letters and before the bytes s.
 abbrev pub stepFor : Kind → ℕ → Bool → ℕ → List ℕ → Step
-stepFor Letter p inside count s = cond (ltb count maxLetters) (On true (suc count)) (Off (Stopped TooManyLetters p))
+stepFor Letter p inside count s = letterStep p count
 stepFor LineEnd p inside count s = On false count
 stepFor CarriageReturn p inside count s = cond (startsWith lineEnd s) (On true count) (Off (Stopped UnfitByte p))
 stepFor HeaderMark p inside count s = cond inside (Off (Stopped UnfitByte p)) (Off (NextRecord count p))

@@ -6,7 +6,7 @@ ghost use lib.ListN.{length, getD, drop};
 ghost use lib.Seq.{sets};
 ghost use Rattle.answer.specs.Limits.{maxInput};
 ghost use Rattle.fasta.specs.Bytes.{kindOf};
-ghost use Rattle.fasta.specs.Lines.{afterLine, stepFor, linesFrom, letterAt, lettersIn};
+ghost use Rattle.fasta.specs.Lines.{afterLine, letterStep, stepFor, linesFrom, letterAt, lettersIn};
 use crate::bytes::Kind;
 use crate::bytes::LINE_END;
 use crate::bytes::kind_at;
@@ -48,6 +48,25 @@ pub(crate) fn after_line(input: &[u8], from: usize) -> usize
     at
 }
 
+// What a letter at `position` does after `count` letters.
+fn letter_step(position: u32, count: u32) -> Step
+    ensures { λ r. ⌜ r ≡ letterStep position count ⌝ }
+{
+    if (count as usize) < max_letters() {
+        Step::On {
+            inside: true,
+            count: count + 1,
+        }
+    } else {
+        Step::Off {
+            ending: Ending::Stopped {
+                reason: Reason::TooManyLetters,
+                position,
+            },
+        }
+    }
+}
+
 // What the byte at `at` does, inside a line or at the start of one, after `count` letters.
 fn step_at(input: &[u8], at: usize, inside: bool, count: u32) -> Step
     requires { ⌜ at < length (now input) ⌝ }
@@ -56,50 +75,36 @@ fn step_at(input: &[u8], at: usize, inside: bool, count: u32) -> Step
 {
     let kind = kind_at(input, at);
     let position = at as u32;
-    let unfit = Ending::Stopped {
-        reason: Reason::UnfitByte,
-        position,
+    let unfit = Step::Off {
+        ending: Ending::Stopped {
+            reason: Reason::UnfitByte,
+            position,
+        },
     };
     match kind {
-        Kind::Letter => {
-            if (count as usize) < max_letters() {
-                Step::On {
-                    inside: true,
-                    count: count + 1,
-                }
-            } else {
-                Step::Off {
-                    ending: Ending::Stopped {
-                        reason: Reason::TooManyLetters,
-                        position,
-                    },
-                }
-            }
-        }
+        Kind::Letter => letter_step(position, count),
         Kind::LineEnd => Step::On {
             inside: false,
             count,
         },
         Kind::CarriageReturn => {
+            let before_line_end = Step::On {
+                inside: true,
+                count,
+            };
             if stands_at(LINE_END, input, at + 1) {
-                Step::On {
-                    inside: true,
-                    count,
-                }
+                before_line_end
             } else {
-                Step::Off { ending: unfit }
+                unfit
             }
         }
         Kind::HeaderMark => {
-            if inside {
-                Step::Off { ending: unfit }
-            } else {
-                Step::Off {
-                    ending: Ending::NextRecord { count, position },
-                }
-            }
+            let next_record = Step::Off {
+                ending: Ending::NextRecord { count, position },
+            };
+            if inside { unfit } else { next_record }
         }
-        Kind::Unfit => Step::Off { ending: unfit },
+        Kind::Unfit => unfit,
     }
 }
 

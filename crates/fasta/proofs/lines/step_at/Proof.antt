@@ -4,11 +4,7 @@ use mathlib.Core.Path.{_≡_, sym, ap, _∙_}
 use mathlib.Core.Bool.{Bool}
 use mathlib.Core.List.{[]}
 use Prim.Native.Nat.{_+_}
-use native.Mathlib.Omega.{arith}
-use native.Mathlib.Numerals.{add-one}
-use borrow.Author.Tests.{lt-ltb, le-ltb}
 use lib.ListN.{getD, drop}
-use Rattle.answer.specs.Limits.{maxLetters}
 use Rattle.fasta.specs.declared.bytes.Kind.{Kind}
 use Rattle.fasta.specs.declared.bytes.Kind.the-variants.{HeaderMark}
 use Rattle.fasta.specs.Bytes.{kindOf}
@@ -37,11 +33,8 @@ cast-position c = search needs
 enum-told : tie.Need-enum-told
 enum-told c = search needs
 
-max-letters-requires : tie.Need-max-letters-requires
-max-letters-requires c κs = search needs
-
-add-t14 : tie.Need-add-t14
-add-t14 c = search needs
+letter-step-requires : tie.Need-letter-step-requires
+letter-step-requires c κs = search needs
 
 enum-told-2 : tie.Need-enum-told-2
 enum-told-2 c = search needs
@@ -62,42 +55,35 @@ enum-told-5 : tie.Need-enum-told-5
 enum-told-5 c = search needs
 
 returns : tie.Need-returns
-returns c =
-    rw (lt-ltb (c .before .before .before .before .before .before .args .count) maxLetters (omega arith), ← add-one) at
-    (by-kind (c .before .before .before .before) (c .before .before .enum-told .given .1))
+returns c = c .letter-step .ensures ∙ by-kind (c .before .before .before) (c .before .enum-told .given .1)
 
 returns-2 : tie.Need-returns-2
-returns-2 c =
-    rw (le-ltb (c .before .before .before .before .before .before .args .count) maxLetters (omega arith)) at
-    (by-kind (c .before .before .before .before) (c .before .before .enum-told .given .1))
+returns-2 c = by-kind (c .before .before) (c .enum-told2 .given .1)
 
 returns-3 : tie.Need-returns-3
-returns-3 c = by-kind (c .before .before) (c .enum-told2 .given .1)
+returns-3 c =
+    rw (sym (c .before .stands-at .ensures) ∙ c .if1 .taken) at
+    (by-kind (c .before .before .before .before) (c .before .before .enum-told3 .given .1))
 
 returns-4 : tie.Need-returns-4
 returns-4 c =
-    rw (sym (c .before .stands-at .ensures) ∙ c .if2 .taken) at
+    rw (sym (c .before .stands-at .ensures) ∙ c .if1 .left) at
     (by-kind (c .before .before .before .before) (c .before .before .enum-told3 .given .1))
 
 returns-5 : tie.Need-returns-5
 returns-5 c =
-    rw (sym (c .before .stands-at .ensures) ∙ c .if2 .left) at
-    (by-kind (c .before .before .before .before) (c .before .before .enum-told3 .given .1))
+    let args = c .before .before .before .before .before .args in
+    ap (λ (i : Bool). stepFor HeaderMark (args .at) i (args .count) []) (sym (c .if2 .taken))
+    ∙ by-kind (c .before .before .before) (c .before .enum-told4 .given .1)
 
 returns-6 : tie.Need-returns-6
 returns-6 c =
     let args = c .before .before .before .before .before .args in
-    ap (λ (i : Bool). stepFor HeaderMark (args .at) i (args .count) []) (sym (c .if3 .taken))
+    ap (λ (i : Bool). stepFor HeaderMark (args .at) i (args .count) []) (sym (c .if2 .left))
     ∙ by-kind (c .before .before .before) (c .before .enum-told4 .given .1)
 
 returns-7 : tie.Need-returns-7
-returns-7 c =
-    let args = c .before .before .before .before .before .args in
-    ap (λ (i : Bool). stepFor HeaderMark (args .at) i (args .count) []) (sym (c .if3 .left))
-    ∙ by-kind (c .before .before .before) (c .before .enum-told4 .given .1)
-
-returns-8 : tie.Need-returns-8
-returns-8 c = by-kind (c .before .before) (c .enum-told5 .given .1)
+returns-7 c = by-kind (c .before .before) (c .enum-told5 .given .1)
 
 pub step-at-spec : {M : Type 1} → statement M
 step-at-spec =
@@ -106,8 +92,7 @@ step-at-spec =
     kind-at-requires
     cast-position
     enum-told
-    max-letters-requires
-    add-t14
+    letter-step-requires
     enum-told-2
     enum-told-3
     add-stands-at
@@ -120,5 +105,4 @@ step-at-spec =
     returns-4
     returns-5
     returns-6
-    returns-7
-    returns-8)
+    returns-7)

@@ -67,7 +67,8 @@ cast-t10 c = search needs
 
 returns-3 : tie.Need-returns-3 Inv-loop μ-loop
 returns-3 c =
-    rw (le-ltb _ maxName (c .if1 .taken)) at (from-here (c .before .before .before) (c .before .enum-told .given .1))
+    let seen = c .before .before .before in
+    rw (le-ltb (seen .before .before .loop .count) maxName (omega arith)) at (from-here seen (c .before .enum-told .given .1))
 
 add-at : tie.Need-add-at Inv-loop μ-loop
 add-at c = search needs
@@ -79,12 +80,14 @@ loop-less : tie.Need-loop-less Inv-loop μ-loop
 loop-less c = search needs
 
 loop-again : tie.Need-loop-again Inv-loop μ-loop
-loop-again c = (
-  omega arith,
-  omega arith,
-  rw (add-one, add-one)
-      (rw (lt-ltb _ maxName (c .if1 .left)) at (from-here (c .before .before .before) (c .before .enum-told .given .1))),
-)
+loop-again c =
+    let seen = c .before .before .before in
+    let loop = seen .before .before .loop in (
+      omega arith,
+      omega arith,
+      rw (add-one (loop .at), add-one (loop .count))
+          (rw (lt-ltb (loop .count) maxName (omega arith)) at (from-here seen (c .before .enum-told .given .1))),
+    )
 
 cast-name-over-2 : tie.Need-cast-name-over-2 Inv-loop μ-loop
 cast-name-over-2 c = search needs
