@@ -1,0 +1,2 @@
+// What the repeat lister prints: BED lines, or the line of a refusal.
+// Contracts cite `specs/`. Nothing is assumed.
