@@ -1,3 +1,5 @@
 pub mod Decimal
+pub mod Written
 pub mod Bed
 pub mod Listing
+pub mod Laws

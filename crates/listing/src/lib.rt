@@ -1,2 +1,3 @@
 // What the repeat lister prints: BED lines, or the line of a refusal.
-// Contracts cite `specs/`. Nothing is assumed.
+// Contracts cite `specs/Listing.antt`. Nothing is assumed.
+pub mod text;
