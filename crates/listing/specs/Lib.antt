@@ -2,4 +2,5 @@ pub mod Decimal
 pub mod Written
 pub mod Bed
 pub mod Listing
+pub mod Limits
 pub mod Laws
