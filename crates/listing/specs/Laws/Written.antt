@@ -8,7 +8,7 @@ use native.Mathlib.Numerals.{add-one}
 use lib.ListN.{length, getD, drop, set, length-append}
 use lib.Seq.{sets, drop-cons}
 use Rattle.fasta.specs.Laws.Stores.{sets-append}
-use Rattle.listing.specs.Written.{Written}
+use Rattle.listing.specs.Written.{Written, Pending}
 
 -- Nothing is written.
 pub written-none : (b : List ℕ) (at : ℕ) → Written b b at at []
@@ -32,3 +32,21 @@ written-append {b = b} {at = at} {l = l} {k = k} v w =
       past = omega (arith, length-append l k);
       content = rw (v .content, v .past) at (w .content) ∙ sym (sets-append b at l k);
     }
+
+-- At the start all is pending.
+pub pending-all : (b : List ℕ) (at : ℕ) (l : List ℕ) → Pending b at l b at l
+pending-all b at l = record { past = refl; content = refl }
+
+-- Once l is written, k is pending.
+pub pending-rest :
+    {b m b₀ : List ℕ} {at n at₀ : ℕ} {l k l₀ : List ℕ} → Pending b at (l ++ k) b₀ at₀ l₀ → Written b m at n l
+    → Pending m n k b₀ at₀ l₀
+pending-rest {b = b} {at = at} {l = l} {k = k} p w =
+    record {
+      past = omega (arith, length-append l k, p .past, w .past);
+      content = rw (w .content, w .past) (sym (sets-append b at l k) ∙ p .content);
+    }
+
+-- Where nothing is pending, all is written.
+pub pending-none : {b b₀ : List ℕ} {at at₀ : ℕ} {l₀ : List ℕ} → Pending b at [] b₀ at₀ l₀ → Written b₀ b at₀ at l₀
+pending-none p = record { past = omega (arith, p .past); content = p .content }

@@ -1,78 +1,102 @@
+-- `listing::bed::write_lines` meets its contract. The loop's invariant: the lines of the runs that are left are pending, and there is room for them.
+-- Assumes nothing.
+use mathlib.Core.Path.{_≡_, _∙_}
+use Prim.Native.Nat.{_+_, _*_, _≤_}
+use native.Mathlib.Omega.{arith}
+use borrow.Author.Needs.{needs}
+use lib.ListN.{length, getD, drop}
+use Rattle.listing.specs.Bed.{bedLine, bedLines, entryWith, entriesOf}
+use Rattle.listing.specs.Limits.{maxLine}
+use Rattle.listing.specs.Written.{Pending}
+use Rattle.listing.specs.Laws.Written.{pending-rest, pending-none}
+use Rattle.listing.specs.Laws.Bed.{line-length, lines-next, lines-none}
 use Rattle.listing.proofs.bed.write_lines.Statement.{statement}
 use Rattle.listing.proofs.bed.write_lines.Tie as tie
-use Rattle.listing.proofs.bed.write_lines.Reads as reads
-use Rattle.listing.proofs.bed.write_lines.Lts as lts
-use Rattle.listing.proofs.bed.write_line.Reads as write-line-reads
 
 abbrev Inv-loop : tie.InvT-loop
-Inv-loop name runs count out₀ at from₀ left₀ next₀ out from left next = ?
+Inv-loop name runs count out₀ at from₀ left₀ next₀ out from left next =
+    (from + 3 * left ≤ length runs)
+    × (next + maxLine * left ≤ length out)
+    × (length out ≡ length out₀)
+    × Pending out next (bedLines name (entriesOf left (drop from runs))) out₀ at (bedLines name (entriesOf count runs))
 
 abbrev μ-loop : tie.MeasureT-loop
-μ-loop name runs count out₀ at from₀ left₀ next₀ out from left next = ?
+μ-loop name runs count out₀ at from₀ left₀ next₀ out from left next = left
 
--- src/bed.rt:51:5
 loop-holds : tie.Need-loop-holds Inv-loop μ-loop
-loop-holds c = ?
+loop-holds c = search needs
 
--- src/bed.rt:52:21
 mul-start : tie.Need-mul-start Inv-loop μ-loop
-mul-start c = ?
+mul-start c = search needs
 
--- src/bed.rt:52:21
 shared-slice-read-start : tie.Need-shared-slice-read-start Inv-loop μ-loop
-shared-slice-read-start c = ?
+shared-slice-read-start c = search needs
 
--- src/bed.rt:53:25
 add-last : tie.Need-add-last Inv-loop μ-loop
-add-last c = ?
+add-last c = search needs
 
--- src/bed.rt:53:20
 mul-last : tie.Need-mul-last Inv-loop μ-loop
-mul-last c = ?
+mul-last c = search needs
 
--- src/bed.rt:53:20
 shared-slice-read-last : tie.Need-shared-slice-read-last Inv-loop μ-loop
-shared-slice-read-last c = ?
+shared-slice-read-last c = search needs
 
--- src/bed.rt:54:27
 add-period : tie.Need-add-period Inv-loop μ-loop
-add-period c = ?
+add-period c = search needs
 
--- src/bed.rt:54:22
 mul-period : tie.Need-mul-period Inv-loop μ-loop
-mul-period c = ?
+mul-period c = search needs
 
--- src/bed.rt:54:22
 shared-slice-read-period : tie.Need-shared-slice-read-period Inv-loop μ-loop
-shared-slice-read-period c = ?
+shared-slice-read-period c = search needs
 
--- src/bed.rt:55:9
+-- The line of the run at the loop's place fits its limit.
+line-fits :
+    (c : tie.After-write-line-arg Inv-loop μ-loop) →
+    let from = c .before .before .before .before .before .loop .from in
+    let args = c .before .before .before .before .before .before .before .before .before .args in
+    let runs = args .runs .now in
+    length (bedLine (args .name .now) (entryWith (getD runs from 0) (getD runs (from + 1) 0) (getD runs (from + 2) 0))) ≤ maxLine
+line-fits c =
+    let from = c .before .before .before .before .before .loop .from in
+    let start = c .before .before .before .before .before .before .before .before .before in
+    let runs = start .args .runs .now in
+    let known = c .before .shared-slice-known5 .given in
+    line-length (start .args .name .now) (getD runs from 0) (getD runs (from + 1) 0) (getD runs (from + 2) 0) (start .pre .0)
+    (omega (arith, known from)) (omega (arith, known (from + 1))) (omega (arith, known (from + 2)))
+
 write-line-requires : tie.Need-write-line-requires Inv-loop μ-loop
-write-line-requires c κs = ?
+write-line-requires c κs = omega (arith, line-fits c, c .before .before .before .before .loop-test .taken, c .before .before .before .before .before .loop .inv .1)
 
--- src/bed.rt:56:9
 add-from : tie.Need-add-from Inv-loop μ-loop
-add-from c = ?
+add-from c = search needs
 
--- src/bed.rt:57:9
 sub-left : tie.Need-sub-left Inv-loop μ-loop
-sub-left c = ?
+sub-left c = search needs
 
--- src/bed.rt:51:5
 loop-less : tie.Need-loop-less Inv-loop μ-loop
-loop-less c = ?
+loop-less c = search needs
 
--- src/bed.rt:51:5
 loop-again : tie.Need-loop-again Inv-loop μ-loop
-loop-again c = ?
+loop-again c =
+    let line = c .before .before .write-line in
+    let loop = c .before .before .before .before .before .before .before .before .loop in
+    let args = c .before .before .before .before .before .before .before .before .before .before .before .before .args in
+    let some = c .before .before .before .before .before .before .before .loop-test .taken in (
+      omega arith,
+      omega (arith, line-fits (c .before .before .before), line .ensures .past, line .kept .1 .1 .1 .1 .0, loop .inv .1),
+      line .kept .1 .1 .1 .1 .0 ∙ loop .inv .2,
+      pending-rest (rw (lines-next (args .name .now) (loop .left) (loop .from) (args .runs .now) some) at (loop .inv .3)) (line .ensures),
+    )
 
--- src/bed.rt:42:1
 same-length : tie.Need-same-length Inv-loop μ-loop
-same-length c = ?
+same-length c = search needs
 
--- src/bed.rt:42:1
 returns : tie.Need-returns Inv-loop μ-loop
-returns c = ?
+returns c =
+    let loop = c .before .loop in
+    let args = c .before .before .before .before .before .args in
+    pending-none (rw (lines-none (args .name .now) (loop .left) (drop (loop .from) (args .runs .now)) (c .loop-test .left)) at (loop .inv .3))
 
 pub write-lines-spec : {M : Type 1} → statement M
 write-lines-spec =
