@@ -6,7 +6,9 @@ ghost use Rattle.fasta.specs.Name.{maxName};
 ghost use Rattle.listing.specs.Bed.{numberField, repeatField, bedLine, bedLines, entryWith, entriesOf};
 ghost use Rattle.listing.specs.Limits.{maxLine};
 ghost use Rattle.listing.specs.Written.{Written};
-use crate::text::{write_byte, write_bytes, write_decimal};
+use crate::text::write_byte;
+use crate::text::write_bytes;
+use crate::text::write_decimal;
 
 // Writes a tab and a number.
 fn write_number(n: usize, out: &mut [u8], at: usize) -> usize
@@ -39,7 +41,13 @@ fn write_line(name: &[u8], start: u32, last: u32, period: u32, out: &mut [u8], a
 }
 
 // Writes the lines of the first `count` runs of the list `runs`.
-pub(crate) fn write_lines(name: &[u8], runs: &[u32], count: usize, out: &mut [u8], at: usize) -> usize
+pub(crate) fn write_lines(
+    name: &[u8],
+    runs: &[u32],
+    count: usize,
+    out: &mut [u8],
+    at: usize,
+) -> usize
     requires { ⌜ length (now name) ≤ maxName ⌝ }
     requires { ⌜ 3 * count ≤ length (now runs) ⌝ }
     requires { ⌜ at + maxLine * count ≤ length (now out) ⌝ }
