@@ -1,8 +1,11 @@
 -- What the repeat lister prints (document 01, "The FASTA reader and the repeat lister").
 -- Assumes nothing.
+use mathlib.Core.Path.{_≡_}
 use mathlib.Core.List.{List, [], _∷_, _++_}
-use Prim.Native.Nat.{ℕ}
+use Prim.Native.Nat.{ℕ, _*_}
+use lib.ListN.{length, take}
 use Rattle.words.specs.Equality.{decided-number-equality}
+use Rattle.words.specs.Runs.{numbers}
 use Rattle.words.specs.Compute.Runs.{runsOf}
 use Rattle.answer.specs.declared.Outcome.{Outcome}
 use Rattle.answer.specs.declared.Outcome.the-variants.{Accepted, Refused}
@@ -22,6 +25,11 @@ refusalLine n p =
 abbrev pub recordListing : List ℕ → ℕ → List ℕ
 recordListing x p = bedLines (recordName x p) (runsOf decided-number-equality (recordLetters x p))
 
+-- The numbers of a run list begin with those of all runs of x, of which there are count.
+pub record HoldsRuns (list x : List ℕ) (count : ℕ) : Type 0 where
+  pub counted : count ≡ length (runsOf decided-number-equality x)
+  pub held : take (3 * count) list ≡ numbers (runsOf decided-number-equality x)
+
 -- What is printed for the input x by the reader's outcome.
 abbrev pub listingFor : Outcome → List ℕ → List ℕ
 listingFor (Accepted count) x = recordListing x 0
@@ -30,3 +38,8 @@ listingFor (Refused reason position) x = refusalLine (numberOf reason) position
 -- What is printed for the input x.
 abbrev pub listingOf : List ℕ → List ℕ
 listingOf x = listingFor (readerAnswer x maxLetters .outcome) x
+
+-- The reader accepts the input x.
+pub record AcceptedBy (x : List ℕ) : Type 0 where
+  pub count : ℕ
+  pub accepted : readerAnswer x maxLetters .outcome ≡ Accepted count

@@ -6,6 +6,7 @@ ghost use Rattle.fasta.specs.Name.{maxName};
 ghost use Rattle.listing.specs.Bed.{numberField, repeatField, bedLine, bedLines, entryWith, entriesOf};
 ghost use Rattle.listing.specs.Limits.{maxLine};
 ghost use Rattle.listing.specs.Written.{Written};
+use fasta::bytes::LINE_END;
 use crate::text::write_byte;
 use crate::text::write_bytes;
 use crate::text::write_decimal;
@@ -37,7 +38,7 @@ fn write_line(name: &[u8], start: u32, last: u32, period: u32, out: &mut [u8], a
     let past_start = write_number(start as usize, out, past_name);
     let past_end = write_number(last as usize + 1, out, past_start);
     let past_repeat = write_repeat(period as usize, out, past_end);
-    write_byte(10, out, past_repeat)
+    write_byte(LINE_END, out, past_repeat)
 }
 
 // Writes the lines of the first `count` runs of the list `runs`.

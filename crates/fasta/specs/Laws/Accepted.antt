@@ -11,7 +11,7 @@ use lib.Dec.{ltb, eqb}
 use lib.ListN.{length, drop, length-drop, drop-of-length-le}
 use Rattle.answer.specs.declared.Answer.{Answer}
 use Rattle.answer.specs.declared.Reason.{Reason}
-use Rattle.answer.specs.declared.Reason.the-variants.{NoHeader, UnfitByte, TooManyLetters, NoLetters}
+use Rattle.answer.specs.declared.Reason.the-variants.{ShortOutput, NoHeader, UnfitByte, NoLetters, TooManyLetters, InputTooLong}
 use Rattle.answer.specs.declared.Outcome.{Outcome}
 use Rattle.answer.specs.declared.Outcome.the-variants.{Accepted, Refused}
 use Rattle.answer.specs.Answers.{acceptedWith, refusedFor}
@@ -30,7 +30,7 @@ use Rattle.fasta.specs.declared.name.Name.the-variants.{Named, Misnamed}
 use Rattle.fasta.specs.Bytes.{kindOf, nameByteOf, headerMark, lineEnd, startsWith}
 use Rattle.fasta.specs.Name.{maxName, nameOver, nameStep, nameFrom, nameBefore, nameIn, recordName}
 use Rattle.fasta.specs.Lines.{afterLine, stepFor, linesFrom, letterBefore, lettersIn}
-use Rattle.fasta.specs.Reader.{nameChecked, linesStart, recordEnding, answerFor, lettersOf}
+use Rattle.fasta.specs.Reader.{nameChecked, linesStart, recordEnding, answerFor, readerAnswer, lettersOf}
 
 -- A line ends within the input.
 afterLine-within : (p : ℕ) (s : List ℕ) → afterLine p s ≤ p + length s
@@ -198,3 +198,15 @@ accepted-input x count h =
       name-some = omega arith;
       name-most = omega arith;
     }
+
+-- What is known of an input that the reader accepts.
+pub reader-accepted : (x : List ℕ) (places count : ℕ) → readerAnswer x places .outcome ≡ Accepted count → AcceptedInput x count
+reader-accepted x places count h = go (ltb places maxLetters) (ltb maxInput (length x)) h
+  where
+    go : (s t : Bool)
+        → pickAnswer s (refusedFor ShortOutput 0) (pickAnswer t (refusedFor InputTooLong maxInput) (answerFor (recordEnding x 0))) .outcome
+        ≡ Accepted count
+        → AcceptedInput x count
+    go true t e = let z : _≡_ {A = ℕ} 0 1 = cc in absurd (omega arith)
+    go false true e = let z : _≡_ {A = ℕ} 0 1 = cc in absurd (omega arith)
+    go false false e = accepted-input x count e

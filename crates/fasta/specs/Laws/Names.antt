@@ -2,13 +2,14 @@
 -- Assumes nothing.
 use mathlib.Core.Path.{_≡_, refl, ap, _∙_}
 use mathlib.Core.List.{List, [], _∷_}
-use Prim.Native.Nat.{ℕ, suc, _≤_}
+use Prim.Native.Nat.{ℕ, suc, _+_, _-_, _≤_}
 use native.Mathlib.Omega.{arith}
-use lib.ListN.{length, take}
+use native.Mathlib.Numerals.{add-one}
+use lib.ListN.{length, take, drop}
 use Rattle.fasta.specs.declared.bytes.NameByte.{NameByte}
 use Rattle.fasta.specs.declared.bytes.NameByte.the-variants.{Part, Past, Foreign}
 use Rattle.fasta.specs.Bytes.{nameByteOf}
-use Rattle.fasta.specs.Name.{nameBefore, nameIn}
+use Rattle.fasta.specs.Name.{nameBefore, nameIn, recordName}
 
 -- A name is no longer than the bytes that it begins.
 pub name-within : (s : List ℕ) → length (nameIn s) ≤ length s
@@ -30,3 +31,10 @@ name-first (b ∷ s) = go (nameByteOf b) (name-first s)
     go Part h = ap (λ (l : List ℕ). b ∷ l) h
     go Past h = refl
     go Foreign h = refl
+
+-- The name of a record as a part of the input, up to its end e.
+pub name-part :
+    (x : List ℕ) (p e : ℕ) → e ≡ p + 1 + length (nameIn (drop (p + 1) x)) → take (e - (p + 1)) (drop (p + 1) x) ≡ recordName x p
+name-part x p e h =
+    let d : e - (p + 1) ≡ length (nameIn (drop (p + 1) x)) = omega arith in
+    rw d (name-first (drop (p + 1) x) ∙ rw (add-one p))
