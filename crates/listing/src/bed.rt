@@ -6,10 +6,10 @@ ghost use Rattle.fasta.specs.Name.{maxName};
 ghost use Rattle.listing.specs.Bed.{numberField, repeatField, bedLine, bedLines, entryWith, entriesOf};
 ghost use Rattle.listing.specs.Limits.{maxLine};
 ghost use Rattle.listing.specs.Written.{Written};
-use fasta::bytes::LINE_END;
 use crate::text::write_byte;
 use crate::text::write_bytes;
 use crate::text::write_decimal;
+use fasta::bytes::LINE_END;
 
 // Writes a tab and a number.
 fn write_number(n: usize, out: &mut [u8], at: usize) -> usize

@@ -13,13 +13,22 @@ ghost use Rattle.listing.specs.Bed.{bedLines, entriesOf};
 ghost use Rattle.listing.specs.Limits.{maxLine, maxRefusal, maxListing};
 ghost use Rattle.listing.specs.Listing.{refusalLine, AcceptedBy, HoldsRuns, listingOf};
 ghost use Rattle.listing.specs.Written.{Written};
+use crate::bed::write_lines;
+use crate::text::write_byte;
+use crate::text::write_bytes;
+use crate::text::write_decimal;
 use fasta::bytes::LINE_END;
 use fasta::name::name_end;
-use crate::bed::write_lines;
-use crate::text::{write_byte, write_bytes, write_decimal};
 
 // The most bytes that are printed for an input.
 pub const MAX_LISTING: usize = 389_120;
+
+// `MAX_LISTING`, as the limit that contracts name.
+pub fn max_listing() -> usize
+    ensures { λ r. ⌜ r ≡ maxListing ⌝ }
+{
+    MAX_LISTING
+}
 
 // Writes the line of a refusal, with its number and position.
 fn write_refusal(number: u32, position: u32, out: &mut [u8]) -> usize
@@ -35,7 +44,14 @@ fn write_refusal(number: u32, position: u32, out: &mut [u8]) -> usize
 
 // Writes the lines of the record that starts at `from`, whose letters have the first `count` runs of
 // the list `runs`.
-fn write_record(input: &[u8], from: usize, runs: &[u32], count: usize, out: &mut [u8], at: usize) -> usize
+fn write_record(
+    input: &[u8],
+    from: usize,
+    runs: &[u32],
+    count: usize,
+    out: &mut [u8],
+    at: usize,
+) -> usize
     requires { ⌜ from < length (now input) ⌝ }
     requires { ⌜ length (recordName (now input) from) ≤ maxName ⌝ }
     requires { ⌜ 3 * count ≤ length (now runs) ⌝ }

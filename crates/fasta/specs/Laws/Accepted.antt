@@ -8,14 +8,15 @@ use native.Mathlib.Omega.{arith}
 use native.Mathlib.Decide.{decLt}
 use borrow.Author.Tests.{ltb-true, ltb-false, eqb-false}
 use lib.Dec.{ltb, eqb}
-use lib.ListN.{length, drop, length-drop, drop-of-length-le}
+use lib.ListN.{length, take, drop, length-drop, drop-of-length-le}
+use lib.Seq.{take-at}
 use Rattle.answer.specs.declared.Answer.{Answer}
 use Rattle.answer.specs.declared.Reason.{Reason}
 use Rattle.answer.specs.declared.Reason.the-variants.{ShortOutput, NoHeader, UnfitByte, NoLetters, TooManyLetters, InputTooLong}
 use Rattle.answer.specs.declared.Outcome.{Outcome}
 use Rattle.answer.specs.declared.Outcome.the-variants.{Accepted, Refused}
 use Rattle.answer.specs.Answers.{acceptedWith, refusedFor}
-use Rattle.answer.specs.Checks.{pickAnswer}
+use Rattle.answer.specs.Checks.{pickAnswer, written}
 use Rattle.answer.specs.Limits.{maxLetters, maxInput}
 use Rattle.fasta.specs.declared.bytes.Kind.{Kind}
 use Rattle.fasta.specs.declared.bytes.Kind.the-variants.{Letter, LineEnd, CarriageReturn, HeaderMark, Unfit}
@@ -210,3 +211,7 @@ reader-accepted x places count h = go (ltb places maxLetters) (ltb maxInput (len
     go true t e = let z : _≡_ {A = ℕ} 0 1 = cc in absurd (omega arith)
     go false true e = let z : _≡_ {A = ℕ} 0 1 = cc in absurd (omega arith)
     go false false e = accepted-input x count e
+
+-- The letters of an accepted input are what the buffer begins with.
+pub letters-first : (x : List ℕ) (count : ℕ) → AcceptedInput x count → (before : List ℕ) → take count (written (lettersOf x) before) ≡ lettersOf x
+letters-first x count a before = take-at (lettersOf x) (drop (length (lettersOf x)) before) count (a .letters)

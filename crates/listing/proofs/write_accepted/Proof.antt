@@ -19,8 +19,7 @@ write-record-requires c κs =
     let start = c .before .before .before .before in
     let x = start .args .input .now in
     let input : AcceptedInput x _ = reader-accepted x maxLetters (start .pre .0 .count) (start .pre .0 .accepted) in
-    let runs = runs-within (start .args .runs .now) (lettersOf x) (start .args .count) (start .pre .1 .0) in
-    (
+    let runs = runs-within (start .args .runs .now) (lettersOf x) (start .args .count) (start .pre .1 .0) in (
       omega (arith, input .name-some, name-within (drop 1 x), length-drop 1 x),
       (input .name-most, (runs, omega (arith, runs, start .pre .1 .1 .0, start .pre .1 .1 .1))),
     )

@@ -2,21 +2,23 @@
 -- Assumes nothing.
 use mathlib.Core.Path.{_≡_, refl, sym, ap, _∙_}
 use mathlib.Core.List.{List, [], _∷_, _++_}
-use Prim.Native.Nat.{ℕ, zero, suc, _+_, _*_, _≤_}
+use Prim.Native.Nat.{ℕ, _*_, _≤_, _<_}
 use native.Mathlib.Omega.{arith}
-use lib.ListN.{length, take, drop, take-append-drop, length-take, length-append}
+use borrow.Author.Tests.{lt-ltb}
+use lib.ListN.{length, drop, take-append-drop, length-take}
 use lib.Seq.{take-at}
 use Rattle.words.specs.Equality.{decided-number-equality}
 use Rattle.words.specs.Runs.{Entry, numbers}
 use Rattle.words.specs.Compute.Runs.{runsOf}
+use Rattle.answer.specs.declared.Reason.{Reason}
+use Rattle.answer.specs.declared.Reason.the-variants.{InputTooLong}
 use Rattle.answer.specs.declared.Outcome.{Outcome}
 use Rattle.answer.specs.declared.Outcome.the-variants.{Accepted, Refused}
 use Rattle.answer.specs.Checks.{written}
 use Rattle.answer.specs.Reasons.{numberOf}
-use Rattle.answer.specs.Limits.{maxLetters}
-use Rattle.fasta.specs.Name.{recordName}
-use Rattle.fasta.specs.Reader.{readerAnswer, lettersOf}
-use Rattle.listing.specs.Bed.{bedLines, entriesOf}
+use Rattle.answer.specs.Limits.{maxLetters, maxInput}
+use Rattle.fasta.specs.Reader.{readerAnswer}
+use Rattle.listing.specs.Bed.{entriesOf}
 use Rattle.listing.specs.Listing.{refusalLine, recordListing, HoldsRuns, listingFor, listingOf}
 
 -- A run list has three numbers for each run.
@@ -58,3 +60,13 @@ holds-written before x count e =
 -- What is printed for an accepted input.
 pub listing-accepted : (x : List ℕ) (count : ℕ) → readerAnswer x maxLetters .outcome ≡ Accepted count → listingOf x ≡ recordListing x 0
 listing-accepted x count e = ap (λ (o : Outcome). listingFor o x) e
+
+-- What is printed for a refused input.
+pub listing-refused :
+    (x : List ℕ) (reason : Reason) (position : ℕ) → readerAnswer x maxLetters .outcome ≡ Refused reason position
+    → listingOf x ≡ refusalLine (numberOf reason) position
+listing-refused x reason position e = ap (λ (o : Outcome). listingFor o x) e
+
+-- An input over the limit is refused for its size, whatever it holds.
+pub listing-long : (x : List ℕ) → maxInput < length x → listingOf x ≡ refusalLine (numberOf InputTooLong) maxInput
+listing-long x h = listing-refused x InputTooLong maxInput (rw (lt-ltb maxInput (length x) h))

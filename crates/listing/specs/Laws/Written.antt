@@ -2,12 +2,12 @@
 -- Assumes nothing.
 use mathlib.Core.Path.{_≡_, refl, sym, _∙_}
 use mathlib.Core.List.{List, [], _∷_, _++_}
-use Prim.Native.Nat.{ℕ, _+_, _<_}
+use Prim.Native.Nat.{ℕ, _+_, _≤_, _<_}
 use native.Mathlib.Omega.{arith}
 use native.Mathlib.Numerals.{add-one}
-use lib.ListN.{length, getD, drop, set, length-append}
-use lib.Seq.{sets, drop-cons}
-use Rattle.fasta.specs.Laws.Stores.{sets-append}
+use lib.ListN.{length, getD, take, drop, set, length-append}
+use lib.Seq.{sets, drop-cons, take-at}
+use Rattle.fasta.specs.Laws.Stores.{sets-append, stored-first}
 use Rattle.listing.specs.Written.{Written, Pending}
 
 -- Nothing is written.
@@ -50,3 +50,7 @@ pending-rest {b = b} {at = at} {l = l} {k = k} p w =
 -- Where nothing is pending, all is written.
 pub pending-none : {b b₀ : List ℕ} {at at₀ : ℕ} {l₀ : List ℕ} → Pending b at [] b₀ at₀ l₀ → Written b₀ b at₀ at l₀
 pending-none p = record { past = omega (arith, p .past); content = p .content }
+
+-- What was written from the start on is what the buffer begins with.
+pub written-first : {b a : List ℕ} {n : ℕ} {l : List ℕ} → Written b a 0 n l → length l ≤ length b → take n a ≡ l
+written-first {b = b} {n = n} {l = l} w h = rw (w .content, stored-first b l h) (take-at l (drop (length l) b) n (omega (arith, w .past)))

@@ -1,7 +1,7 @@
 -- `listing::bed::write_lines` meets its contract. The loop's invariant: the lines of the runs that are left are pending, and there is room for them.
 -- Assumes nothing.
 use mathlib.Core.Path.{_≡_, _∙_}
-use Prim.Native.Nat.{_+_, _*_, _≤_}
+use Prim.Native.Nat.{_+_, _*_, _≤_, _<_}
 use native.Mathlib.Omega.{arith}
 use borrow.Author.Needs.{needs}
 use lib.ListN.{length, getD, drop}
@@ -82,7 +82,7 @@ loop-again c =
     let line = c .before .before .write-line in
     let loop = c .before .before .before .before .before .before .before .before .loop in
     let args = c .before .before .before .before .before .before .before .before .before .before .before .before .args in
-    let some = c .before .before .before .before .before .before .before .loop-test .taken in (
+    let some : 0 < loop .left = omega (arith, c .before .before .before .before .before .before .before .loop-test .taken) in (
       omega arith,
       omega (arith, line-fits (c .before .before .before), line .ensures .past, line .kept .1 .1 .1 .1 .0, loop .inv .1),
       line .kept .1 .1 .1 .1 .0 ∙ loop .inv .2,
