@@ -17,7 +17,7 @@ maxName = 60
 
 -- A name of count bytes that is over at position p: none is empty.
 abbrev pub nameOver : ℕ → ℕ → Name
-nameOver p count = cond (eqb count 0) (Misnamed p) (Named p)
+nameOver p count = cond (eqb count 0) (Misnamed p) Named
 
 -- What a byte at position p is to a name of count bytes before it; rest is what the bytes after it make of the name.
 abbrev pub nameStep : NameByte → ℕ → ℕ → Name → Name

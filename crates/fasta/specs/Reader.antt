@@ -24,14 +24,14 @@ headerChecked p s rest = cond (startsWith headerMark s) rest (Stopped NoHeader p
 
 -- Refusal 10: the name.
 abbrev pub nameChecked : Name → Ending → Ending
-nameChecked (Named end) rest = rest
+nameChecked Named rest = rest
 nameChecked (Misnamed position) rest = Stopped BadName position
 
 -- Where the sequence lines start of the record of x that starts at p: past the line of its name.
 abbrev pub linesStart : List ℕ → ℕ → ℕ
 linesStart x p = afterLine p (drop p x)
 
--- How the record of x ends that starts at p: refusals 9, 10, then 11 and 14 in one pass over its lines.
+-- How the record of x ends that starts at p: refusals 9 and 10, then one pass over its lines.
 abbrev pub recordEnding : List ℕ → ℕ → Ending
 recordEnding x p =
     headerChecked p (drop p x)

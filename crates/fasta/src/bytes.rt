@@ -63,7 +63,7 @@ pub(crate) fn name_byte_at(input: &[u8], at: usize) -> NameByte
 }
 
 // Whether `byte` stands at `at`.
-pub fn stands_at(byte: u8, input: &[u8], at: usize) -> bool
+pub(crate) fn stands_at(byte: u8, input: &[u8], at: usize) -> bool
     ensures { λ r. ⌜ r ≡ startsWith byte (drop at (now (input .entry))) ⌝ }
 {
     if at < input.len() {
@@ -74,7 +74,7 @@ pub fn stands_at(byte: u8, input: &[u8], at: usize) -> bool
 }
 
 // The letter that is handed on for the letter `byte`.
-pub fn letter_of(byte: u8) -> u8
+pub(crate) fn letter_of(byte: u8) -> u8
     ensures { λ r. ⌜ r ≡ letterOf byte ⌝ }
 {
     byte

@@ -35,7 +35,7 @@ fn record_ending(input: &[u8], from: usize) -> Ending
     if stands_at(HEADER_MARK, input, from) {
         let name = name_from(input, from + 1);
         match name {
-            Name::Named { end: _ } => lines_from(input, after_line(input, from)),
+            Name::Named => lines_from(input, after_line(input, from)),
             Name::Misnamed { position } => Ending::Stopped {
                 reason: Reason::BadName,
                 position,

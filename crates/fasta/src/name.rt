@@ -12,8 +12,8 @@ pub const MAX_NAME: usize = 60;
 
 // What is found of a name.
 pub enum Name {
-    // It is over before `end`.
-    Named { end: u32 },
+    // It has 1 to 60 bytes, and it is over.
+    Named,
     // It is empty, or too long, or the byte at `position` is none of a name's.
     Misnamed { position: u32 },
 }
@@ -25,7 +25,7 @@ fn name_over(at: u32, count: usize) -> Name
     if count == 0 {
         Name::Misnamed { position: at }
     } else {
-        Name::Named { end: at }
+        Name::Named
     }
 }
 

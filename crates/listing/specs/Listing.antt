@@ -40,6 +40,6 @@ abbrev pub listingOf : List ℕ → List ℕ
 listingOf x = listingFor (readerAnswer x maxLetters .outcome) x
 
 -- The reader accepts the input x.
-pub record AcceptedBy (x : List ℕ) : Type 0 where
+pub record ReaderAccepts (x : List ℕ) : Type 0 where
   pub count : ℕ
   pub accepted : readerAnswer x maxLetters .outcome ≡ Accepted count

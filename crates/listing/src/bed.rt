@@ -11,12 +11,14 @@ use crate::text::write_bytes;
 use crate::text::write_decimal;
 use fasta::bytes::LINE_END;
 
+const TAB: u8 = 9;
+
 // Writes a tab and a number.
 fn write_number(n: usize, out: &mut [u8], at: usize) -> usize
     requires { ⌜ at + length (numberField n) ≤ length (now out) ⌝ }
     ensures { λ r. ⌜ Written (now (out .entry)) (now (out .exit)) at r (numberField n) ⌝ }
 {
-    let next = write_byte(9, out, at);
+    let next = write_byte(TAB, out, at);
     write_decimal(n, out, next)
 }
 

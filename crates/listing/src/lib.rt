@@ -4,14 +4,14 @@ pub mod bed;
 pub mod text;
 
 ghost use mathlib.Core.Path.{_≡_};
-ghost use Prim.Native.Nat.{suc, _+_, _*_, _≤_, _<_};
+ghost use Prim.Native.Nat.{_+_, _*_, _≤_, _<_};
 ghost use lib.ListN.{length};
 ghost use Rattle.answer.specs.Limits.{maxLetters, runListLength};
 ghost use Rattle.fasta.specs.Name.{maxName, recordName};
 ghost use Rattle.fasta.specs.Reader.{lettersOf};
 ghost use Rattle.listing.specs.Bed.{bedLines, entriesOf};
 ghost use Rattle.listing.specs.Limits.{maxLine, maxRefusal, maxListing};
-ghost use Rattle.listing.specs.Listing.{refusalLine, AcceptedBy, HoldsRuns, listingOf};
+ghost use Rattle.listing.specs.Listing.{refusalLine, ReaderAccepts, HoldsRuns, listingOf};
 ghost use Rattle.listing.specs.Written.{Written};
 use crate::bed::write_lines;
 use crate::text::write_byte;
@@ -66,7 +66,7 @@ fn write_record(
 
 // Writes all that is printed for an accepted input, whose letters have the `count` runs of the list `runs`.
 fn write_accepted(input: &[u8], runs: &[u32], count: usize, out: &mut [u8]) -> usize
-    requires { ⌜ AcceptedBy (now input) ⌝ }
+    requires { ⌜ ReaderAccepts (now input) ⌝ }
     requires { ⌜ HoldsRuns (now runs) (lettersOf (now input)) count ⌝ }
     requires { ⌜ length (now runs) ≤ runListLength maxLetters ⌝ }
     requires { ⌜ maxListing ≤ length (now out) ⌝ }

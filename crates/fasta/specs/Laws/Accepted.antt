@@ -104,46 +104,43 @@ lines-finished [] p inside count c q h e =
 lines-finished (b ∷ s) p inside count c q h e =
     lines-step s b p inside count c q h (λ i n. lines-finished s (suc p) i n c q) (kindOf b) e
 
-misnamed-named : {p q : ℕ} → Misnamed p ≡ Named q → ⊥
+misnamed-named : {p : ℕ} → Misnamed p ≡ Named → ⊥
 misnamed-named e = let z : _≡_ {A = ℕ} 0 1 = cc in omega arith
 
--- A name of l more bytes behind count, that is over at end.
-pub record OverAt (l : List ℕ) (p count end : ℕ) : Type 0 where
-  pub ends : end ≡ p + length l
+-- A name of count bytes and then l has a right length.
+pub record RightLength (l : List ℕ) (count : ℕ) : Type 0 where
   pub some : 0 < count + length l
   pub most : count + length l ≤ maxName
 
-name-over : (p count end : ℕ) → count ≤ maxName → nameOver p count ≡ Named end → OverAt [] p count end
-name-over p count end h = go (eqb count 0) refl
+name-over : (p count : ℕ) → count ≤ maxName → nameOver p count ≡ Named → RightLength [] count
+name-over p count h = go (eqb count 0) refl
   where
-    go : (t : Bool) → eqb count 0 ≡ t → cond t (Misnamed p) (Named p) ≡ Named end → OverAt [] p count end
+    go : (t : Bool) → eqb count 0 ≡ t → cond t (Misnamed p) Named ≡ Named → RightLength [] count
     go true l e = absurd (misnamed-named e)
     go false l e =
-        let z : p ≡ end = cc in
         let n : count ≡ 0 → ⊥ = eqb-false count 0 l in
-        record { ends = omega arith; some = omega arith; most = omega arith }
+        record { some = omega arith; most = omega arith }
 
 name-step :
-    (s : List ℕ) (b p count end : ℕ) → count ≤ maxName
-    → (suc count ≤ maxName → nameFrom (suc p) (suc count) s ≡ Named end → OverAt (nameIn s) (suc p) (suc count) end)
-    → (k : NameByte) → nameStep k p count (nameFrom (suc p) (suc count) s) ≡ Named end → OverAt (nameBefore k b (nameIn s)) p count end
-name-step s b p count end h rest Part = go (ltb count maxName) refl
+    (s : List ℕ) (b p count : ℕ) → count ≤ maxName
+    → (suc count ≤ maxName → nameFrom (suc p) (suc count) s ≡ Named → RightLength (nameIn s) (suc count))
+    → (k : NameByte) → nameStep k p count (nameFrom (suc p) (suc count) s) ≡ Named → RightLength (nameBefore k b (nameIn s)) count
+name-step s b p count h rest Part = go (ltb count maxName) refl
   where
-    go : (t : Bool) → ltb count maxName ≡ t → cond t (nameFrom (suc p) (suc count) s) (Misnamed p) ≡ Named end
-        → OverAt (b ∷ nameIn s) p count end
+    go : (t : Bool) → ltb count maxName ≡ t → cond t (nameFrom (suc p) (suc count) s) (Misnamed p) ≡ Named
+        → RightLength (b ∷ nameIn s) count
     go true l e =
-        let r : OverAt (nameIn s) (suc p) (suc count) end = rest (ltb-true count maxName l) e in
-        record { ends = omega arith; some = omega arith; most = omega arith }
+        let r : RightLength (nameIn s) (suc count) = rest (ltb-true count maxName l) e in
+        record { some = omega arith; most = omega arith }
     go false l e = absurd (misnamed-named e)
-name-step s b p count end h rest Past = λ e. name-over p count end h e
-name-step s b p count end h rest Foreign = λ e. absurd (misnamed-named e)
+name-step s b p count h rest Past = λ e. name-over p count h e
+name-step s b p count h rest Foreign = λ e. absurd (misnamed-named e)
 
--- A name that is right has 1 to 60 bytes, and ends behind them.
-pub name-named :
-    (s : List ℕ) (p count end : ℕ) → count ≤ maxName → nameFrom p count s ≡ Named end → OverAt (nameIn s) p count end
-name-named [] p count end h e = name-over p count end h e
-name-named (b ∷ s) p count end h e =
-    name-step s b p count end h (λ l. name-named s (suc p) (suc count) end l) (nameByteOf b) e
+-- A name that is right has 1 to 60 bytes.
+name-named : (s : List ℕ) (p count : ℕ) → count ≤ maxName → nameFrom p count s ≡ Named → RightLength (nameIn s) count
+name-named [] p count h e = name-over p count h e
+name-named (b ∷ s) p count h e =
+    name-step s b p count h (λ l. name-named s (suc p) (suc count) l) (nameByteOf b) e
 
 -- What is known of an accepted input x of count letters.
 pub record AcceptedInput (x : List ℕ) (count : ℕ) : Type 0 where
@@ -170,8 +167,7 @@ finished-accepted (Finished n p) count h = go (eqb n 0) refl h
 
 -- A record whose lines end with the input has a right name.
 pub record ReadWhole (x : List ℕ) (p c q : ℕ) : Type 0 where
-  pub end : ℕ
-  pub named : nameFrom (suc p) 0 (drop (suc p) x) ≡ Named end
+  pub named : nameFrom (suc p) 0 (drop (suc p) x) ≡ Named
   pub lines : linesFrom (linesStart x p) false 0 (drop (linesStart x p) x) ≡ Finished c q
 
 record-finished : (x : List ℕ) (p c q : ℕ) → recordEnding x p ≡ Finished c q → ReadWhole x p c q
@@ -180,7 +176,7 @@ record-finished x p c q = go (startsWith headerMark (drop p x)) (nameFrom (suc p
     go : (t : Bool) (n : Name) → nameFrom (suc p) 0 (drop (suc p) x) ≡ n
         → cond t (nameChecked n (linesFrom (linesStart x p) false 0 (drop (linesStart x p) x))) (Stopped NoHeader p) ≡ Finished c q
         → ReadWhole x p c q
-    go true (Named end) f e = record { end = end; named = f; lines = e }
+    go true Named f e = record { named = f; lines = e }
     go true (Misnamed at) f e = absurd (not-stopped e)
     go false n f e = absurd (not-stopped e)
 
@@ -189,7 +185,7 @@ pub accepted-input : (x : List ℕ) (count : ℕ) → answerFor (recordEnding x 
 accepted-input x count h =
     let f : (q : ℕ) × (recordEnding x 0 ≡ Finished count q) × (0 < count) = finished-accepted (recordEnding x 0) count h in
     let w : ReadWhole x 0 count (f .0) = record-finished x 0 count (f .0) (f .1) in
-    let n : OverAt (recordName x 0) 1 0 (w .end) = name-named (drop 1 x) 1 0 (w .end) (omega arith) (w .named) in
+    let n : RightLength (recordName x 0) 0 = name-named (drop 1 x) 1 0 (omega arith) (w .named) in
     let l : Counted (lettersOf x) 0 count =
     lines-finished (drop (linesStart x 0) x) (linesStart x 0) false 0 count (f .0) (omega arith) (w .lines) in
     record {
