@@ -10,7 +10,8 @@ use Rattle.answer.specs.Checks.{contentIn}
 use Rattle.fasta.specs.Lines.{lettersIn}
 use Rattle.fasta.specs.Reader.{answerFor, recordEnding, lettersOf}
 use Rattle.fasta.specs.Laws.Stores.{stored-first}
-use Rattle.fasta.specs.Laws.Accepted.{AcceptedInput, accepted-input, linesStart-within}
+use Rattle.fasta.specs.Laws.Positions.{linesStart-within}
+use Rattle.fasta.specs.Laws.Accepted.{AcceptedInput, accepted-input}
 use borrow.Author.Needs.{needs}
 use Rattle.fasta.proofs.read_record.Statement.{statement}
 use Rattle.fasta.proofs.read_record.Tie as tie

@@ -15,7 +15,7 @@ use Rattle.fasta.specs.Bytes.{headerMark, startsWith}
 use Rattle.fasta.specs.Name.{nameFrom}
 use Rattle.fasta.specs.Lines.{linesFrom}
 use Rattle.fasta.specs.Reader.{nameChecked, linesStart, recordEnding}
-use Rattle.fasta.specs.Laws.Accepted.{linesStart-within, starts-inside}
+use Rattle.fasta.specs.Laws.Positions.{linesStart-within, starts-inside}
 use borrow.Author.Needs.{needs}
 use Rattle.fasta.proofs.record_ending.Statement.{statement}
 use Rattle.fasta.proofs.record_ending.Tie as tie

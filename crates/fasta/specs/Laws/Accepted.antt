@@ -1,20 +1,17 @@
 -- What holds of an input that the reader accepts.
 -- Assumes nothing.
-use mathlib.Core.Path.{_≡_, refl, sym, ap, _∙_}
+use mathlib.Core.Path.{_≡_, refl, ap}
 use mathlib.Core.Bool.{Bool, true, false, cond}
 use mathlib.Core.List.{List, [], _∷_}
-use Prim.Native.Nat.{ℕ, zero, suc, _+_, _-_, _≤_, _<_}
+use Prim.Native.Nat.{ℕ, suc, _+_, _≤_, _<_}
 use native.Mathlib.Omega.{arith}
-use native.Mathlib.Decide.{decLt}
-use borrow.Author.Tests.{ltb-true, ltb-false, eqb-false}
+use borrow.Author.Tests.{ltb-true, eqb-false}
 use lib.Dec.{ltb, eqb}
-use lib.ListN.{length, take, drop, length-drop, drop-of-length-le}
+use lib.ListN.{length, take, drop}
 use lib.Seq.{take-at}
-use Rattle.answer.specs.declared.Answer.{Answer}
 use Rattle.answer.specs.declared.Reason.{Reason}
 use Rattle.answer.specs.declared.Reason.the-variants.{ShortOutput, NoHeader, UnfitByte, NoLetters, TooManyLetters, InputTooLong}
-use Rattle.answer.specs.declared.Outcome.{Outcome}
-use Rattle.answer.specs.declared.Outcome.the-variants.{Accepted, Refused}
+use Rattle.answer.specs.declared.Outcome.the-variants.{Accepted}
 use Rattle.answer.specs.Answers.{acceptedWith, refusedFor}
 use Rattle.answer.specs.Checks.{pickAnswer, written}
 use Rattle.answer.specs.Limits.{maxLetters, maxInput}
@@ -24,38 +21,13 @@ use Rattle.fasta.specs.declared.bytes.NameByte.{NameByte}
 use Rattle.fasta.specs.declared.bytes.NameByte.the-variants.{Part, Past, Foreign}
 use Rattle.fasta.specs.declared.lines.Ending.{Ending}
 use Rattle.fasta.specs.declared.lines.Ending.the-variants.{Stopped, NextRecord, Finished}
-use Rattle.fasta.specs.declared.lines.Step.{Step}
 use Rattle.fasta.specs.declared.lines.Step.the-variants.{On, Off}
 use Rattle.fasta.specs.declared.name.Name.{Name}
 use Rattle.fasta.specs.declared.name.Name.the-variants.{Named, Misnamed}
 use Rattle.fasta.specs.Bytes.{kindOf, nameByteOf, headerMark, lineEnd, startsWith}
 use Rattle.fasta.specs.Name.{maxName, nameOver, nameStep, nameFrom, nameBefore, nameIn, recordName}
-use Rattle.fasta.specs.Lines.{afterLine, stepFor, linesFrom, letterBefore, lettersIn}
+use Rattle.fasta.specs.Lines.{stepFor, linesFrom, letterBefore, lettersIn}
 use Rattle.fasta.specs.Reader.{nameChecked, linesStart, recordEnding, answerFor, readerAnswer, lettersOf}
-
--- A line ends within the input.
-afterLine-within : (p : ℕ) (s : List ℕ) → afterLine p s ≤ p + length s
-afterLine-within p [] = omega arith
-afterLine-within p (b ∷ s) = go (eqb b lineEnd) (afterLine-within (suc p) s)
-  where
-    go : (t : Bool) → afterLine (suc p) s ≤ suc p + length s → cond t (suc p) (afterLine (suc p) s) ≤ p + suc (length s)
-    go true h = omega arith
-    go false h = omega arith
-
--- The sequence lines start within the input.
-pub linesStart-within : (x : List ℕ) (p : ℕ) → p ≤ length x → linesStart x p ≤ length x
-linesStart-within x p h = omega (arith, afterLine-within p (drop p x), length-drop p x)
-
--- A position with a byte is inside the input.
-pub starts-inside : (b : ℕ) (x : List ℕ) (p : ℕ) → startsWith b (drop p x) ≡ true → p < length x
-starts-inside b x p h = go (decLt p (length x))
-  where
-    go : Dec (p < length x) → p < length x
-    go (yes l) = l
-    go (no n) =
-        let z : _≡_ {A = Bool} false true = ap (startsWith b) (sym (drop-of-length-le x {i = p} (omega arith))) ∙ h in
-        let y : _≡_ {A = ℕ} 0 1 = cc in
-        absurd (omega arith)
 
 not-stopped : {r : Reason} {p c q : ℕ} → Stopped r p ≡ Finished c q → ⊥
 not-stopped e = let z : _≡_ {A = ℕ} 0 1 = cc in omega arith

@@ -1,8 +1,8 @@
 -- `listing::write_accepted` meets its contract: the run list holds the runs of the letters, and there is room for their lines.
 -- Assumes nothing.
-use mathlib.Core.Path.{_≡_, sym, ap, _∙_}
+use mathlib.Core.Path.{sym, ap, _∙_}
 use native.Mathlib.Omega.{arith}
-use lib.ListN.{length, drop, length-drop}
+use lib.ListN.{drop, length-drop}
 use Rattle.answer.specs.Limits.{maxLetters}
 use Rattle.fasta.specs.Name.{recordName}
 use Rattle.fasta.specs.Reader.{lettersOf}

@@ -1,11 +1,10 @@
 -- `listing::write_record` meets its contract: the part of the input up to the name's end is the name.
 -- Assumes nothing.
 use mathlib.Core.Path.{_≡_, ap}
-use mathlib.Core.List.{List}
-use Prim.Native.Nat.{ℕ, _+_, _-_}
+use Prim.Native.Nat.{_+_, _-_}
 use native.Mathlib.Omega.{arith}
 use lib.ListN.{length, take, drop, length-drop}
-use Rattle.fasta.specs.Name.{nameIn, recordName}
+use Rattle.fasta.specs.Name.{recordName}
 use Rattle.fasta.specs.Laws.Names.{name-within, name-part}
 use borrow.Author.Needs.{needs}
 use Rattle.listing.proofs.write_record.Statement.{statement}

@@ -1,6 +1,6 @@
 -- `fasta::lines::write_letters` meets its contract. The loop's invariant: the letters that are left, stored behind those that are kept, make the buffer that is asked.
 -- Assumes nothing.
-use mathlib.Core.Path.{_≡_, sym, _∙_}
+use mathlib.Core.Path.{_≡_, _∙_}
 use Prim.Native.Nat.{_+_, _≤_, _-_}
 use native.Mathlib.Omega.{arith}
 use borrow.Author.Needs.{needs}
