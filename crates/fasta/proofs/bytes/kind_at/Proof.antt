@@ -1,0 +1,51 @@
+-- `fasta::bytes::kind_at` meets its contract: each arm of the match is a sort of the definition.
+-- Assumes nothing.
+use borrow.Author.Needs.{needs}
+use mathlib.Core.Path.{sym, ap}
+use Rattle.fasta.specs.Bytes.{kindOf}
+use Rattle.fasta.proofs.Sorting.{capital-letter, small-letter, unfit-below, unfit-between, unfit-above}
+use Rattle.fasta.proofs.bytes.kind_at.Statement.{statement}
+use Rattle.fasta.proofs.bytes.kind_at.Tie as tie
+
+shared-slice-read-byte : tie.Need-shared-slice-read-byte
+shared-slice-read-byte c = search needs
+
+returns : tie.Need-returns
+returns c = sym (ap kindOf (c .match .keys1))
+
+returns-2 : tie.Need-returns-2
+returns-2 c = sym (ap kindOf (c .match .keys2))
+
+returns-3 : tie.Need-returns-3
+returns-3 c = sym (ap kindOf (c .match .keys3))
+
+returns-4 : tie.Need-returns-4
+returns-4 c = capital-letter (c .before .if1 .left) (c .if2 .taken)
+
+returns-5 : tie.Need-returns-5
+returns-5 c = small-letter (c .before .if3 .left) (c .if4 .taken)
+
+returns-6 : tie.Need-returns-6
+returns-6 c =
+    let rest = c .before .match .rest in
+    unfit-below (c .if1 .taken) (rest .0 .0 .1) (rest .0 .1) (rest .1)
+
+returns-7 : tie.Need-returns-7
+returns-7 c = unfit-between (c .before .if2 .left) (c .if3 .taken)
+
+returns-8 : tie.Need-returns-8
+returns-8 c = unfit-above (c .if4 .left)
+
+pub kind-at-spec : {M : Type 1} → statement M
+kind-at-spec =
+    tie.close
+    (tie.spec
+    shared-slice-read-byte
+    returns
+    returns-2
+    returns-3
+    returns-4
+    returns-5
+    returns-6
+    returns-7
+    returns-8)

@@ -1,0 +1,102 @@
+-- `fasta::lines::keep_letter` meets its contract: a letter is stored, and any other byte stores nothing.
+-- Assumes nothing.
+use mathlib.Core.Path.{_≡_, sym, ap, _∙_}
+use mathlib.Core.List.{[]}
+use native.Mathlib.Omega.{arith}
+use lib.ListN.{length, getD}
+use Rattle.fasta.specs.declared.bytes.Kind.{Kind}
+use Rattle.fasta.specs.Lines.{letterBefore, letterAt}
+use Rattle.fasta.specs.Laws.Stores.{stored-none, stored-one}
+use borrow.Author.Needs.{needs}
+use Rattle.fasta.proofs.lines.keep_letter.Statement.{statement}
+use Rattle.fasta.proofs.lines.keep_letter.Tie as tie
+
+-- What stands at the position goes by the kind of the byte.
+by-kind :
+    (c : tie.After-kind-at) {k : Kind} → c .kind-at .result ≡ k →
+    let args = c .before .before .before .args in
+    letterAt (args .input .now) (args .at) ≡ letterBefore k (getD (args .input .now) (args .at) 0) []
+by-kind c e =
+    let args = c .before .before .before .args in
+    ap (λ (k : Kind). letterBefore k (getD (args .input .now) (args .at) 0) []) (sym (c .kind-at .ensures) ∙ e)
+
+kind-at-requires : tie.Need-kind-at-requires
+kind-at-requires c κs = search needs
+
+enum-told : tie.Need-enum-told
+enum-told c = search needs
+
+shared-slice-read-letter-of : tie.Need-shared-slice-read-letter-of
+shared-slice-read-letter-of c = search needs
+
+letter-of-requires : tie.Need-letter-of-requires
+letter-of-requires c κs = search needs
+
+slice-write-letters : tie.Need-slice-write-letters
+slice-write-letters c =
+    omega (arith, ap length (by-kind (c .before .before .before .before) (c .before .before .enum-told .given .1)))
+
+add-result : tie.Need-add-result
+add-result c = search needs
+
+enum-told-2 : tie.Need-enum-told-2
+enum-told-2 c = search needs
+
+enum-told-3 : tie.Need-enum-told-3
+enum-told-3 c = search needs
+
+enum-told-4 : tie.Need-enum-told-4
+enum-told-4 c = search needs
+
+enum-told-5 : tie.Need-enum-told-5
+enum-told-5 c = search needs
+
+same-length : tie.Need-same-length
+same-length c = search needs
+
+returns : tie.Need-returns
+returns c =
+    let args = c .before .before .before .before .before .before .before .args in
+    stored-one (args .letters .now) (args .count) (c .letter-of .result) (letterAt (args .input .now) (args .at))
+    (rw (c .letter-of .ensures) (by-kind (c .before .before .before .before) (c .before .before .enum-told .given .1)))
+
+returns-2 : tie.Need-returns-2
+returns-2 c =
+    let args = c .before .before .before .before .before .args in
+    stored-none (args .letters .now) (args .count) _ (by-kind (c .before .before) (c .enum-told2 .given .1))
+
+returns-3 : tie.Need-returns-3
+returns-3 c =
+    let args = c .before .before .before .before .before .args in
+    stored-none (args .letters .now) (args .count) _ (by-kind (c .before .before) (c .enum-told3 .given .1))
+
+returns-4 : tie.Need-returns-4
+returns-4 c =
+    let args = c .before .before .before .before .before .args in
+    stored-none (args .letters .now) (args .count) _ (by-kind (c .before .before) (c .enum-told4 .given .1))
+
+returns-5 : tie.Need-returns-5
+returns-5 c =
+    let args = c .before .before .before .before .before .args in
+    stored-none (args .letters .now) (args .count) _ (by-kind (c .before .before) (c .enum-told5 .given .1))
+
+pub keep-letter-spec : {M : Type 1} → statement M
+keep-letter-spec =
+    tie.close
+    (tie.spec
+    kind-at-requires
+    enum-told
+    shared-slice-read-letter-of
+    letter-of-requires
+    slice-write-letters
+    add-result
+    enum-told-2
+    enum-told-3
+    enum-told-4
+    enum-told-5
+    same-length
+    returns
+    returns-2
+    returns-3
+    returns-4
+    returns-5)

@@ -1,0 +1,72 @@
+-- `fasta::lines::write_letters` meets its contract. The loop's invariant: the letters that are left, stored behind those that are kept, make the buffer that is asked.
+-- Assumes nothing.
+use mathlib.Core.Path.{_≡_, _∙_}
+use Prim.Native.Nat.{_+_, _≤_, _-_}
+use native.Mathlib.Omega.{arith}
+use borrow.Author.Needs.{needs}
+use lib.ListN.{length, drop}
+use lib.Seq.{sets}
+use Rattle.fasta.specs.Lines.{lettersIn}
+use Rattle.fasta.proofs.Reading.{letters-over, letters-stored, letters-counted}
+use Rattle.fasta.proofs.lines.write_letters.Statement.{statement}
+use Rattle.fasta.proofs.lines.write_letters.Tie as tie
+
+abbrev Inv-loop : tie.InvT-loop
+Inv-loop input from letters₀ at₀ count₀ letters at count =
+    (at ≤ length input)
+    × (length letters ≡ length letters₀)
+    × (count + length (lettersIn (drop at input)) ≤ length letters)
+    × (sets letters count (lettersIn (drop at input)) ≡ sets letters₀ 0 (lettersIn (drop from input)))
+
+abbrev μ-loop : tie.MeasureT-loop
+μ-loop input from letters₀ at₀ count₀ letters at count = length input - at
+
+loop-holds : tie.Need-loop-holds Inv-loop μ-loop
+loop-holds c = search needs
+
+keep-letter-requires : tie.Need-keep-letter-requires Inv-loop μ-loop
+keep-letter-requires c κs =
+    let loop = c .before .before .loop in
+    let counted = letters-counted (c .before .before .before .before .before .args .input .now) (loop .at) (c .before .loop-test .taken) in
+    (c .before .loop-test .taken, omega (arith, counted, loop .inv .2))
+
+add-at : tie.Need-add-at Inv-loop μ-loop
+add-at c = search needs
+
+loop-less : tie.Need-loop-less Inv-loop μ-loop
+loop-less c = search needs
+
+loop-again : tie.Need-loop-again Inv-loop μ-loop
+loop-again c =
+    let loop = c .before .before .before .before .before .loop in
+    let kept = c .before .before .keep-letter in
+    let inside = c .before .before .before .before .loop-test .taken in
+    let x = c .before .before .before .before .before .before .before .before .args .input .now in
+    let counted = letters-counted x (loop .at) inside in (
+      omega arith,
+      kept .kept .1 .1 .0 ∙ loop .inv .1,
+      omega (arith, counted, kept .ensures .0, kept .kept .1 .1 .0, loop .inv .2),
+      letters-stored x (loop .at) inside (loop .letters) (loop .count) (kept .ensures .0) (kept .ensures .1) ∙ loop .inv .3,
+    )
+
+same-length : tie.Need-same-length Inv-loop μ-loop
+same-length c = c .before .loop .inv .1
+
+returns : tie.Need-returns Inv-loop μ-loop
+returns c =
+    let loop = c .before .loop in
+    rw (letters-over _ (loop .at) (c .loop-test .left)) at (loop .inv .3)
+
+pub write-letters-spec : {M : Type 1} → statement M
+write-letters-spec =
+    tie.close
+    (tie.spec
+    Inv-loop
+    μ-loop
+    loop-holds
+    keep-letter-requires
+    add-at
+    loop-less
+    loop-again
+    same-length
+    returns)

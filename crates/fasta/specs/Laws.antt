@@ -1,0 +1,4 @@
+pub mod Stores
+pub mod Positions
+pub mod Names
+pub mod Accepted

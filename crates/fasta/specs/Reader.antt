@@ -1,0 +1,61 @@
+-- What the FASTA reader answers and which letters it writes (document 01, "The FASTA reader and the repeat lister"; rows 4 and 9 to 15 of its table).
+-- Assumes nothing.
+use mathlib.Core.Bool.{false, cond}
+use mathlib.Core.List.{List}
+use Prim.Native.Nat.{ℕ, suc}
+use lib.Dec.{ltb, eqb}
+use lib.ListN.{length, drop}
+use Rattle.answer.specs.declared.Answer.{Answer}
+use Rattle.answer.specs.declared.Reason.the-variants.{NoHeader, BadName, SecondRecord, NoLetters, InputTooLong}
+use Rattle.answer.specs.Answers.{acceptedWith, refusedFor}
+use Rattle.answer.specs.Checks.{pickAnswer, outputChecked}
+use Rattle.answer.specs.Limits.{maxLetters, maxInput}
+use Rattle.fasta.specs.declared.name.Name.{Name}
+use Rattle.fasta.specs.declared.name.Name.the-variants.{Named, Misnamed}
+use Rattle.fasta.specs.declared.lines.Ending.{Ending}
+use Rattle.fasta.specs.declared.lines.Ending.the-variants.{Stopped, NextRecord, Finished}
+use Rattle.fasta.specs.Bytes.{headerMark, startsWith}
+use Rattle.fasta.specs.Name.{nameFrom}
+use Rattle.fasta.specs.Lines.{afterLine, linesFrom, lettersIn}
+
+-- Refusal 9: byte 0 of a record that starts at p and whose bytes are s.
+abbrev pub headerChecked : ℕ → List ℕ → Ending → Ending
+headerChecked p s rest = cond (startsWith headerMark s) rest (Stopped NoHeader p)
+
+-- Refusal 10: the name.
+abbrev pub nameChecked : Name → Ending → Ending
+nameChecked Named rest = rest
+nameChecked (Misnamed position) rest = Stopped BadName position
+
+-- Where the sequence lines start of the record of x that starts at p: past the line of its name.
+abbrev pub linesStart : List ℕ → ℕ → ℕ
+linesStart x p = afterLine p (drop p x)
+
+-- How the record of x ends that starts at p: refusals 9 and 10, then one pass over its lines.
+abbrev pub recordEnding : List ℕ → ℕ → Ending
+recordEnding x p =
+    headerChecked p (drop p x)
+    (nameChecked (nameFrom (suc p) 0 (drop (suc p) x))
+    (linesFrom (linesStart x p) false 0 (drop (linesStart x p) x)))
+
+-- The letters of the record of x that starts at p and is its last.
+abbrev pub recordLetters : List ℕ → ℕ → List ℕ
+recordLetters x p = lettersIn (drop (linesStart x p) x)
+
+-- The answer for an input that is one record: another one is refusal 12, and no letter 13.
+abbrev pub answerFor : Ending → Answer
+answerFor (Stopped reason p) = refusedFor reason p
+answerFor (NextRecord count p) = refusedFor SecondRecord p
+answerFor (Finished count p) = pickAnswer (eqb count 0) (refusedFor NoLetters p) (acceptedWith count)
+
+-- Refusal 15: an input of n bytes.
+abbrev pub sizeChecked : ℕ → Answer → Answer
+sizeChecked n rest = pickAnswer (ltb maxInput n) (refusedFor InputTooLong maxInput) rest
+
+-- What the reader answers to the input x with a letters buffer of so many places.
+abbrev pub readerAnswer : List ℕ → ℕ → Answer
+readerAnswer x places = outputChecked maxLetters places (sizeChecked (length x) (answerFor (recordEnding x 0)))
+
+-- The letters that the reader writes for an accepted input x.
+abbrev pub lettersOf : List ℕ → List ℕ
+lettersOf x = recordLetters x 0

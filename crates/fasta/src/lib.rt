@@ -1,0 +1,98 @@
+// The FASTA reader: an input of one record, checked in the order of document 01's table, gives its letters.
+// Contracts cite `specs/Reader.antt`. Nothing is assumed.
+pub mod bytes;
+pub mod lines;
+pub mod name;
+
+ghost use mathlib.Core.Path.{_≡_};
+ghost use Prim.Native.Nat.{_≤_};
+ghost use lib.ListN.{length};
+ghost use Rattle.answer.specs.Checks.{contentAfter};
+ghost use Rattle.answer.specs.Limits.{maxInput, maxLetters};
+ghost use Rattle.fasta.specs.Reader.{recordEnding, answerFor, readerAnswer, lettersOf};
+use crate::bytes::HEADER_MARK;
+use crate::bytes::stands_at;
+use crate::lines::Ending;
+use crate::lines::after_line;
+use crate::lines::lines_from;
+use crate::lines::write_letters;
+use crate::name::Name;
+use crate::name::name_from;
+use answer::Answer;
+use answer::Outcome;
+use answer::Reason;
+use answer::accepted;
+use answer::limits::max_input;
+use answer::limits::max_letters;
+use answer::refused;
+
+// How the record ends that starts at `from`.
+fn record_ending(input: &[u8], from: usize) -> Ending
+    requires { ⌜ from ≤ length (now input) ⌝ }
+    requires { ⌜ length (now input) ≤ maxInput ⌝ }
+    ensures { λ r. ⌜ r ≡ recordEnding (now (input .entry)) from ⌝ }
+{
+    if stands_at(HEADER_MARK, input, from) {
+        let name = name_from(input, from + 1);
+        match name {
+            Name::Named => lines_from(input, after_line(input, from)),
+            Name::Misnamed { position } => Ending::Stopped {
+                reason: Reason::BadName,
+                position,
+            },
+        }
+    } else {
+        Ending::Stopped {
+            reason: Reason::NoHeader,
+            position: from as u32,
+        }
+    }
+}
+
+// The answer for an input that is one record, by how it ends.
+fn answer_for(ending: Ending) -> Answer
+    ensures { λ r. ⌜ r ≡ answerFor ending ⌝ }
+{
+    match ending {
+        Ending::Stopped { reason, position } => refused(reason, position),
+        Ending::NextRecord { count: _, position } => refused(Reason::SecondRecord, position),
+        Ending::Finished { count, position } => {
+            if count == 0 {
+                refused(Reason::NoLetters, position)
+            } else {
+                accepted(count)
+            }
+        }
+    }
+}
+
+// Reads an input of fitting size into a buffer of fitting length: a pass that checks and stores
+// nothing, then one that stores the letters.
+fn read_record(input: &[u8], letters: &mut [u8]) -> Answer
+    requires { ⌜ length (now input) ≤ maxInput ⌝ }
+    requires { ⌜ maxLetters ≤ length (now letters) ⌝ }
+    ensures { λ r. ⌜ r ≡ answerFor (recordEnding (now (input .entry)) 0) ⌝ }
+    ensures { λ r. ⌜ now (letters .exit) ≡ contentAfter r (lettersOf (now (input .entry))) (now (letters .entry)) ⌝ }
+{
+    let answer = answer_for(record_ending(input, 0));
+    let outcome = answer.outcome;
+    let Outcome::Accepted { count: _ } = outcome else {
+        return answer;
+    };
+    write_letters(input, after_line(input, 0), letters);
+    answer
+}
+
+// Reads the letters of a FASTA input into `letters`. A refusal changes nothing.
+pub fn read(input: &[u8], letters: &mut [u8]) -> Answer
+    ensures { λ r. ⌜ r ≡ readerAnswer (now (input .entry)) (length (now (letters .entry))) ⌝ }
+    ensures { λ r. ⌜ now (letters .exit) ≡ contentAfter r (lettersOf (now (input .entry))) (now (letters .entry)) ⌝ }
+{
+    if letters.len() < max_letters() {
+        return refused(Reason::ShortOutput, 0);
+    }
+    if max_input() < input.len() {
+        return refused(Reason::InputTooLong, max_input() as u32);
+    }
+    read_record(input, letters)
+}

@@ -1,0 +1,75 @@
+// The name of a record. Contracts cite `specs/Name.antt`. Nothing is assumed.
+ghost use mathlib.Core.Path.{_≡_};
+ghost use Prim.Native.Nat.{_+_, _≤_};
+ghost use lib.ListN.{length, drop};
+ghost use Rattle.answer.specs.Limits.{maxInput};
+ghost use Rattle.fasta.specs.Name.{nameFrom, nameIn, nameOver};
+use crate::bytes::NameByte;
+use crate::bytes::name_byte_at;
+
+// The most bytes of a name.
+pub const MAX_NAME: usize = 60;
+
+// What is found of a name.
+pub enum Name {
+    // It has 1 to 60 bytes, and it is over.
+    Named,
+    // It is empty, or too long, or the byte at `position` is none of a name's.
+    Misnamed { position: u32 },
+}
+
+// A name of `count` bytes that is over at `at`.
+fn name_over(at: u32, count: usize) -> Name
+    ensures { λ r. ⌜ r ≡ nameOver at count ⌝ }
+{
+    if count == 0 {
+        Name::Misnamed { position: at }
+    } else {
+        Name::Named
+    }
+}
+
+// The name whose bytes start at `from`.
+pub(crate) fn name_from(input: &[u8], from: usize) -> Name
+    requires { ⌜ from ≤ length (now input) ⌝ }
+    requires { ⌜ length (now input) ≤ maxInput ⌝ }
+    ensures { λ r. ⌜ r ≡ nameFrom from 0 (drop from (now (input .entry))) ⌝ }
+{
+    let mut at = from;
+    let mut count: usize = 0;
+    while at < input.len() {
+        let byte = name_byte_at(input, at);
+        match byte {
+            NameByte::Part => {}
+            NameByte::Past => return name_over(at as u32, count),
+            NameByte::Foreign => return Name::Misnamed {
+                position: at as u32,
+            },
+        }
+        if MAX_NAME <= count {
+            return Name::Misnamed {
+                position: at as u32,
+            };
+        }
+        at += 1;
+        count += 1;
+    }
+    name_over(at as u32, count)
+}
+
+// Where the name ends whose bytes start at `from`: past its last byte.
+pub fn name_end(input: &[u8], from: usize) -> usize
+    ensures { λ r. ⌜ r ≡ from + length (nameIn (drop from (now (input .entry)))) ⌝ }
+{
+    let mut at = from;
+    while at < input.len() {
+        let byte = name_byte_at(input, at);
+        match byte {
+            NameByte::Part => {}
+            NameByte::Past => return at,
+            NameByte::Foreign => return at,
+        }
+        at += 1;
+    }
+    at
+}

@@ -1,0 +1,52 @@
+-- How long BED lines are.
+-- Assumes nothing.
+use mathlib.Core.Path.{_≡_, refl, ap}
+use mathlib.Core.List.{List, [], _∷_, _++_}
+use Prim.Native.Nat.{ℕ, zero, suc, _+_, _-_, _^_, _≤_, _<_}
+use native.Mathlib.Omega.{arith}
+use lib.ListN.{length, getD, drop, length-append}
+use lib.Seq.{getD-drop, drop-drop}
+use Rattle.fasta.specs.Name.{maxName}
+use Rattle.listing.specs.Decimal.{decimalOf}
+use Rattle.listing.specs.Bed.{numberField, repeatField, bedLine, bedLines, entryWith, entriesOf}
+use Rattle.listing.specs.Limits.{maxLine}
+use Rattle.listing.specs.Laws.Decimal.{decimal-length}
+
+-- A line is as long as its parts.
+pub line-parts :
+    (name : List ℕ) (start last period : ℕ)
+    → length (bedLine name (entryWith start last period))
+    ≡ length name + (length (numberField start) + (length (numberField (suc last)) + (length (repeatField period) + 1)))
+line-parts name start last period = simp length-append
+
+-- A line of 32-bit numbers fits its limit.
+pub line-length :
+    (name : List ℕ) (start last period : ℕ) → length name ≤ maxName → start < 2 ^ 32 → last < 2 ^ 32 → period < 2 ^ 32
+    → length (bedLine name (entryWith start last period)) ≤ maxLine
+line-length name start last period h s l p =
+    let a : length (decimalOf start) ≤ 10 = decimal-length 9 start (omega arith) in
+    let b : length (decimalOf (suc last)) ≤ 10 = decimal-length 9 (suc last) (omega arith) in
+    let c : length (decimalOf period) ≤ 10 = decimal-length 9 period (omega arith) in
+    omega (arith, line-parts name start last period)
+
+-- The runs of a list from place i on: the one that stands there, and the rest.
+pub entries-next :
+    (k i : ℕ) (l : List ℕ) → 0 < k
+    → entriesOf k (drop i l) ≡ entryWith (getD l i 0) (getD l (i + 1) 0) (getD l (i + 2) 0) ∷ entriesOf (k - 1) (drop (i + 3) l)
+entries-next zero i l h = absurd (omega arith)
+entries-next (suc k) i l h =
+    let e : suc k - 1 ≡ k = omega arith in
+    let z : i + 0 ≡ i = omega arith in
+    rw (e, getD-drop i l 0 0, getD-drop i l 1 0, getD-drop i l 2 0, z, drop-drop 3 i l)
+
+-- The lines of the runs of a list from place i on.
+pub lines-next :
+    (name : List ℕ) (k i : ℕ) (l : List ℕ) → 0 < k
+    → bedLines name (entriesOf k (drop i l))
+    ≡ bedLine name (entryWith (getD l i 0) (getD l (i + 1) 0) (getD l (i + 2) 0)) ++ bedLines name (entriesOf (k - 1) (drop (i + 3) l))
+lines-next name k i l h = ap (bedLines name) (entries-next k i l h)
+
+-- No run is left.
+pub lines-none : (name : List ℕ) (k : ℕ) (l : List ℕ) → k ≤ 0 → bedLines name (entriesOf k l) ≡ []
+lines-none name zero l h = refl
+lines-none name (suc k) l h = absurd (omega arith)

@@ -1,0 +1,72 @@
+-- What is printed, by the reader's answer and the run list.
+-- Assumes nothing.
+use mathlib.Core.Path.{_≡_, refl, sym, ap, _∙_}
+use mathlib.Core.List.{List, [], _∷_, _++_}
+use Prim.Native.Nat.{ℕ, _*_, _≤_, _<_}
+use native.Mathlib.Omega.{arith}
+use borrow.Author.Tests.{lt-ltb}
+use lib.ListN.{length, drop, take-append-drop, length-take}
+use lib.Seq.{take-at}
+use Rattle.words.specs.Equality.{decided-number-equality}
+use Rattle.words.specs.Runs.{Entry, numbers}
+use Rattle.words.specs.Compute.Runs.{runsOf}
+use Rattle.answer.specs.declared.Reason.{Reason}
+use Rattle.answer.specs.declared.Reason.the-variants.{InputTooLong}
+use Rattle.answer.specs.declared.Outcome.{Outcome}
+use Rattle.answer.specs.declared.Outcome.the-variants.{Accepted, Refused}
+use Rattle.answer.specs.Checks.{written}
+use Rattle.answer.specs.Reasons.{numberOf}
+use Rattle.answer.specs.Limits.{maxLetters, maxInput}
+use Rattle.fasta.specs.Reader.{readerAnswer}
+use Rattle.listing.specs.Bed.{entriesOf}
+use Rattle.listing.specs.Listing.{refusalLine, recordListing, HoldsRuns, listingFor, listingOf}
+
+-- A run list has three numbers for each run.
+pub numbers-length : (rs : List Entry) → length (numbers rs) ≡ 3 * length rs
+numbers-length [] = refl
+numbers-length (r ∷ rs) = omega (arith, numbers-length rs)
+
+-- The runs are read back from their numbers.
+entries-numbers : (rs : List Entry) (rest : List ℕ) → entriesOf (length rs) (numbers rs ++ rest) ≡ rs
+entries-numbers [] rest = refl
+entries-numbers (r ∷ rs) rest = ap (λ (l : List Entry). r ∷ l) (entries-numbers rs rest)
+
+module _ (list x : List ℕ) (count : ℕ) (h : HoldsRuns list x count) where
+  -- The runs are read back from a list that holds them.
+  pub entries-held : entriesOf count list ≡ runsOf decided-number-equality x
+  entries-held =
+      let rs : List Entry = runsOf decided-number-equality x in
+      let e : list ≡ numbers rs ++ drop (3 * count) list = sym (take-append-drop (3 * count) list) ∙ ap (λ (l : List ℕ). l ++ drop (3 * count) list) (h .held) in
+      ap (λ (k : ℕ). entriesOf k list) (h .counted)
+      ∙ (ap (entriesOf (length rs)) e ∙ entries-numbers rs (drop (3 * count) list))
+
+  -- They have their place in it.
+  pub runs-within : 3 * count ≤ length list
+  runs-within =
+      let rs : List Entry = runsOf decided-number-equality x in
+      omega (arith, numbers-length rs, h .counted, ap length (h .held), length-take (3 * count) list)
+
+-- A buffer into which all runs of x were written holds them.
+pub holds-written :
+    (before x : List ℕ) (count : ℕ) → count ≡ length (runsOf decided-number-equality x)
+    → HoldsRuns (written (numbers (runsOf decided-number-equality x)) before) x count
+holds-written before x count e =
+    let rs : List Entry = runsOf decided-number-equality x in
+    record {
+      counted = e;
+      held = take-at (numbers rs) (drop (length (numbers rs)) before) (3 * count) (omega (arith, numbers-length rs));
+    }
+
+-- What is printed for an accepted input.
+pub listing-accepted : (x : List ℕ) (count : ℕ) → readerAnswer x maxLetters .outcome ≡ Accepted count → listingOf x ≡ recordListing x 0
+listing-accepted x count e = ap (λ (o : Outcome). listingFor o x) e
+
+-- What is printed for a refused input.
+pub listing-refused :
+    (x : List ℕ) (reason : Reason) (position : ℕ) → readerAnswer x maxLetters .outcome ≡ Refused reason position
+    → listingOf x ≡ refusalLine (numberOf reason) position
+listing-refused x reason position e = ap (λ (o : Outcome). listingFor o x) e
+
+-- An input over the limit is refused for its size, whatever it holds.
+pub listing-long : (x : List ℕ) → maxInput < length x → listingOf x ≡ refusalLine (numberOf InputTooLong) maxInput
+listing-long x h = listing-refused x InputTooLong maxInput (rw (lt-ltb maxInput (length x) h))

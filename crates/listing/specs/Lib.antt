@@ -1,0 +1,7 @@
+pub mod Decimal
+pub mod Written
+pub mod Bed
+pub mod Listing
+pub mod Examples
+pub mod Limits
+pub mod Laws

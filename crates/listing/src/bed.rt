@@ -1,0 +1,71 @@
+// BED lines, written into a buffer from a position on. Each function returns the position past what it wrote.
+// Contracts cite `specs/Bed.antt` and `specs/Written.antt`. Nothing is assumed.
+ghost use Prim.Native.Nat.{_+_, _*_, _≤_};
+ghost use lib.ListN.{length};
+ghost use Rattle.fasta.specs.Name.{maxName};
+ghost use Rattle.listing.specs.Bed.{numberField, repeatField, bedLine, bedLines, entryWith, entriesOf};
+ghost use Rattle.listing.specs.Limits.{maxLine};
+ghost use Rattle.listing.specs.Written.{Written};
+use crate::text::write_byte;
+use crate::text::write_bytes;
+use crate::text::write_decimal;
+use fasta::bytes::LINE_END;
+
+const TAB: u8 = 9;
+
+// Writes a tab and a number.
+fn write_number(n: usize, out: &mut [u8], at: usize) -> usize
+    requires { ⌜ at + length (numberField n) ≤ length (now out) ⌝ }
+    ensures { λ r. ⌜ Written (now (out .entry)) (now (out .exit)) at r (numberField n) ⌝ }
+{
+    let next = write_byte(TAB, out, at);
+    write_decimal(n, out, next)
+}
+
+// Writes a tab and the name of a repeat.
+fn write_repeat(period: usize, out: &mut [u8], at: usize) -> usize
+    requires { ⌜ at + length (repeatField period) ≤ length (now out) ⌝ }
+    ensures { λ r. ⌜ Written (now (out .entry)) (now (out .exit)) at r (repeatField period) ⌝ }
+{
+    let next = write_bytes(b"\tp", out, at);
+    write_decimal(period, out, next)
+}
+
+// Writes the line of the run with this start, last position and period.
+fn write_line(name: &[u8], start: u32, last: u32, period: u32, out: &mut [u8], at: usize) -> usize
+    requires { ⌜ at + length (bedLine (now name) (entryWith start last period)) ≤ length (now out) ⌝ }
+    ensures { λ r. ⌜ Written (now (out .entry)) (now (out .exit)) at r (bedLine (now (name .entry)) (entryWith start last period)) ⌝ }
+{
+    let past_name = write_bytes(name, out, at);
+    let past_start = write_number(start as usize, out, past_name);
+    let past_end = write_number(last as usize + 1, out, past_start);
+    let past_repeat = write_repeat(period as usize, out, past_end);
+    write_byte(LINE_END, out, past_repeat)
+}
+
+// Writes the lines of the first `count` runs of the list `runs`.
+pub(crate) fn write_lines(
+    name: &[u8],
+    runs: &[u32],
+    count: usize,
+    out: &mut [u8],
+    at: usize,
+) -> usize
+    requires { ⌜ length (now name) ≤ maxName ⌝ }
+    requires { ⌜ 3 * count ≤ length (now runs) ⌝ }
+    requires { ⌜ at + maxLine * count ≤ length (now out) ⌝ }
+    ensures { λ r. ⌜ Written (now (out .entry)) (now (out .exit)) at r (bedLines (now (name .entry)) (entriesOf count (now (runs .entry)))) ⌝ }
+{
+    let mut from = 0;
+    let mut left = count;
+    let mut next = at;
+    while left > 0 {
+        let start = runs[from];
+        let last = runs[from + 1];
+        let period = runs[from + 2];
+        next = write_line(name, start, last, period, out, next);
+        from += 3;
+        left -= 1;
+    }
+    next
+}

@@ -1,0 +1,76 @@
+// What the repeat lister prints: BED lines, or the line of a refusal.
+// Contracts cite `specs/Listing.antt`. Nothing is assumed.
+pub mod bed;
+pub mod text;
+
+ghost use mathlib.Core.Path.{_≡_};
+ghost use Prim.Native.Nat.{_+_, _*_, _≤_, _<_};
+ghost use lib.ListN.{length};
+ghost use Rattle.answer.specs.Limits.{maxLetters, runListLength};
+ghost use Rattle.fasta.specs.Name.{maxName, recordName};
+ghost use Rattle.fasta.specs.Reader.{lettersOf};
+ghost use Rattle.listing.specs.Bed.{bedLines, entriesOf};
+ghost use Rattle.listing.specs.Limits.{maxLine, maxRefusal, maxListing};
+ghost use Rattle.listing.specs.Listing.{refusalLine, ReaderAccepts, HoldsRuns, listingOf};
+ghost use Rattle.listing.specs.Written.{Written};
+use crate::bed::write_lines;
+use crate::text::write_byte;
+use crate::text::write_bytes;
+use crate::text::write_decimal;
+use fasta::bytes::LINE_END;
+use fasta::name::name_end;
+
+// The most bytes that are printed for an input.
+pub const MAX_LISTING: usize = 389_120;
+
+// `MAX_LISTING`, as the limit that contracts name.
+pub fn max_listing() -> usize
+    ensures { λ r. ⌜ r ≡ maxListing ⌝ }
+{
+    MAX_LISTING
+}
+
+// Writes the line of a refusal, with its number and position.
+fn write_refusal(number: u32, position: u32, out: &mut [u8]) -> usize
+    requires { ⌜ maxRefusal ≤ length (now out) ⌝ }
+    ensures { λ r. ⌜ Written (now (out .entry)) (now (out .exit)) 0 r (refusalLine number position) ⌝ }
+{
+    let past_refused = write_bytes(b"refused ", out, 0);
+    let past_number = write_decimal(number as usize, out, past_refused);
+    let past_at = write_bytes(b" at ", out, past_number);
+    let past_position = write_decimal(position as usize, out, past_at);
+    write_byte(LINE_END, out, past_position)
+}
+
+// Writes the lines of the record that starts at `from`, whose letters have the first `count` runs of
+// the list `runs`.
+fn write_record(
+    input: &[u8],
+    from: usize,
+    runs: &[u32],
+    count: usize,
+    out: &mut [u8],
+    at: usize,
+) -> usize
+    requires { ⌜ from < length (now input) ⌝ }
+    requires { ⌜ length (recordName (now input) from) ≤ maxName ⌝ }
+    requires { ⌜ 3 * count ≤ length (now runs) ⌝ }
+    requires { ⌜ at + maxLine * count ≤ length (now out) ⌝ }
+    ensures { λ r. ⌜ Written (now (out .entry)) (now (out .exit)) at r (bedLines (recordName (now (input .entry)) from) (entriesOf count (now (runs .entry)))) ⌝ }
+{
+    let start = from + 1;
+    let end = name_end(input, start);
+    let name = &input[start..end];
+    write_lines(name, runs, count, out, at)
+}
+
+// Writes all that is printed for an accepted input, whose letters have the `count` runs of the list `runs`.
+fn write_accepted(input: &[u8], runs: &[u32], count: usize, out: &mut [u8]) -> usize
+    requires { ⌜ ReaderAccepts (now input) ⌝ }
+    requires { ⌜ HoldsRuns (now runs) (lettersOf (now input)) count ⌝ }
+    requires { ⌜ length (now runs) ≤ runListLength maxLetters ⌝ }
+    requires { ⌜ maxListing ≤ length (now out) ⌝ }
+    ensures { λ r. ⌜ Written (now (out .entry)) (now (out .exit)) 0 r (listingOf (now (input .entry))) ⌝ }
+{
+    write_record(input, 0, runs, count, out, 0)
+}
