@@ -10,7 +10,7 @@ use Rattle.answer.specs.declared.Answer.{Answer}
 use Rattle.answer.specs.declared.Outcome.{Outcome}
 use Rattle.answer.specs.declared.Outcome.the-variants.{Accepted, Refused}
 use Rattle.answer.specs.declared.Reason.{Reason}
-use Rattle.answer.specs.declared.Reason.the-variants.{EmptyInput, TooLong, UnknownOrder, ShortOutput, ShortWork}
+use Rattle.answer.specs.declared.Reason.the-variants.{EmptyText, TextTooLong, UnknownOrder, ShortOutput, ShortWork}
 use Rattle.answer.specs.Answers.{acceptedWith, refusedFor}
 use Rattle.answer.specs.Limits.{maxLength}
 
@@ -21,7 +21,7 @@ pickAnswer false a b = b
 
 -- Refusals 1 and 2: a text or array of n letters or entries.
 abbrev pub lengthChecked : ℕ → Answer → Answer
-lengthChecked n rest = pickAnswer (eqb n 0) (refusedFor EmptyInput 0) (pickAnswer (ltb maxLength n) (refusedFor TooLong 0) rest)
+lengthChecked n rest = pickAnswer (eqb n 0) (refusedFor EmptyText 0) (pickAnswer (ltb maxLength n) (refusedFor TextTooLong 0) rest)
 
 -- Refusal 3: the order number.
 abbrev pub orderChecked : ℕ → Answer → Answer

@@ -2,12 +2,12 @@
 -- Assumes nothing.
 use Prim.Native.Nat.{ℕ}
 use Rattle.answer.specs.declared.Reason.{Reason}
-use Rattle.answer.specs.declared.Reason.the-variants.{EmptyInput, TooLong, UnknownOrder, ShortOutput, ShortWork, ZeroEntry, LongEntry, CrossingSpans, NoHeader, BadName, UnfitByte, SecondRecord, NoLetters, TooManyLetters, InputTooLong}
+use Rattle.answer.specs.declared.Reason.the-variants.{EmptyText, TextTooLong, UnknownOrder, ShortOutput, ShortWork, ZeroEntry, LongEntry, CrossingSpans, NoHeader, BadName, UnfitByte, SecondRecord, NoLetters, TooManyLetters, FileTooLong}
 
 -- Document 01's number for each reason ("Where each check stands", column "No.").
 abbrev pub numberOf : Reason → ℕ
-numberOf EmptyInput = 1
-numberOf TooLong = 2
+numberOf EmptyText = 1
+numberOf TextTooLong = 2
 numberOf UnknownOrder = 3
 numberOf ShortOutput = 4
 numberOf ShortWork = 5
@@ -20,4 +20,4 @@ numberOf UnfitByte = 11
 numberOf SecondRecord = 12
 numberOf NoLetters = 13
 numberOf TooManyLetters = 14
-numberOf InputTooLong = 15
+numberOf FileTooLong = 15

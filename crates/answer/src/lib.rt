@@ -13,9 +13,9 @@ ghost use Rattle.answer.specs.Answers.{acceptedWith, refusedFor, number,
 // Why a call refuses its input: a case for each row of document 01, "Where each check stands".
 pub enum Reason {
     // 1: the length of the text or array is 0.
-    EmptyInput,
+    EmptyText,
     // 2: the length of the text or array is over 1,048,576.
-    TooLong,
+    TextTooLong,
     // 3: the order number is neither 0 nor 1.
     UnknownOrder,
     // 4: an output buffer is shorter than needed; for the reader, the letters buffer is under 2,048.
@@ -41,7 +41,7 @@ pub enum Reason {
     // 14: a 2,049th letter.
     TooManyLetters,
     // 15: the FASTA input is over 8,192 bytes.
-    InputTooLong,
+    FileTooLong,
 }
 
 // What a call makes of its input. The position is 0 where document 01's table names none.
@@ -78,8 +78,8 @@ pub fn number_of(reason: Reason) -> u32
     ensures { λ r. ⌜ r ≡ numberOf reason ⌝ }
 {
     match reason {
-        Reason::EmptyInput => 1,
-        Reason::TooLong => 2,
+        Reason::EmptyText => 1,
+        Reason::TextTooLong => 2,
         Reason::UnknownOrder => 3,
         Reason::ShortOutput => 4,
         Reason::ShortWork => 5,
@@ -92,7 +92,7 @@ pub fn number_of(reason: Reason) -> u32
         Reason::SecondRecord => 12,
         Reason::NoLetters => 13,
         Reason::TooManyLetters => 14,
-        Reason::InputTooLong => 15,
+        Reason::FileTooLong => 15,
     }
 }
 

@@ -12,7 +12,7 @@ use borrow.Author.Tests.{lt-ltb, le-ltb}
 use Rattle.words.specs.Letters.{orderOf, decided-order}
 use Rattle.words.specs.Laws.SpanLyndon.{letters}
 use Rattle.words.specs.Laws.SuffixOrder.{NextSmaller}
-use Rattle.words.specs.Compute.LyndonArray.{arrayOf, arrayOf-right}
+use Rattle.words.specs.Compute.LyndonArray.{arrayOf, arrayOf-holds}
 use Rattle.answer.specs.Checks.{written}
 use Rattle.array.specs.declared.joined.Joined.{Joined}
 use Rattle.array.specs.Core.State.{entryOf, entry-next, entries-array, RowsOf, restoredAt, storedAt}
@@ -182,7 +182,7 @@ pub array-written : (order : ℕ) (x before buf after : List ℕ) → length x �
 array-written order x before buf after fits f r =
     sym (take-append-drop (length x) after) ∙ ap (λ (l : List ℕ). l ++ drop (length x) after) front ∙
     ap (λ (l : List ℕ). arrayOf (decided-order order) x ++ l) back ∙
-    ap (λ (m : ℕ). arrayOf (decided-order order) x ++ drop m before) (sym (arrayOf-right (decided-order order) x .size))
+    ap (λ (m : ℕ). arrayOf (decided-order order) x ++ drop m before) (sym (arrayOf-holds (decided-order order) x .size))
   where
     size : length after ≡ length before
     size = r .others .size ∙ f .others .size

@@ -13,8 +13,8 @@ use Rattle.words.specs.Laws.SpanLyndon.{letters}
 use Rattle.words.specs.Laws.RunMarks.{endBound}
 use Rattle.words.specs.Laws.EachRunOnce.{ListsDown, EachRunOnce, each-run-once, rearranged-run-list}
 use Rattle.words.specs.Laws.Runs.{run-list-unique, numbers-length}
-use Rattle.words.specs.Compute.LyndonArray.{arrayOf, arrayOf-right}
-use Rattle.words.specs.Compute.Runs.{runsOf-right}
+use Rattle.words.specs.Compute.LyndonArray.{arrayOf, arrayOf-holds}
+use Rattle.words.specs.Compute.Runs.{runsOf-holds}
 use Rattle.answer.specs.Checks.{written}
 use Rattle.sorting.specs.Triples.{AfterSort}
 use Rattle.sorting.specs.RunList.{RunsSorted, runs-sorted, sorted-member, member-sorted, sorted-length}
@@ -86,10 +86,10 @@ module _ (x : List ℕ) (work work₁ part list list₁ list₂ list₃ : List �
   is-list =
       run-list-unique
       (rearranged-run-list x (a .entries ++ b .entries) (sorted .entries) once (member-sorted sorted) (sorted-member sorted) (sorted-length sorted) (sorted .ordered))
-      (runsOf-right decided-number-equality x)
+      (runsOf-holds decided-number-equality x)
 
   size : (order : ℕ) → length (arrayOf (decided-order order) x) ≡ length x
-  size order = arrayOf-right (decided-order order) x .size
+  size order = arrayOf-holds (decided-order order) x .size
 
   first-array : take (length x) work₁ ≡ arrayOf decided-rising x
   first-array = ap (take (length x)) (a .array) ∙ take-at (arrayOf decided-rising x) (drop (length (arrayOf decided-rising x)) work) (length x) (size 0)

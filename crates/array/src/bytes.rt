@@ -142,10 +142,10 @@ pub fn lyndon_array(text: &[u8], order: u32, out: &mut [u32]) -> Answer
 {
     let n = text.len();
     if n == 0 {
-        return answer::refused(Reason::EmptyInput, 0);
+        return answer::refused(Reason::EmptyText, 0);
     }
     if limits::MAX_LENGTH < n {
-        return answer::refused(Reason::TooLong, 0);
+        return answer::refused(Reason::TextTooLong, 0);
     }
     if 1 < order {
         return answer::refused(Reason::UnknownOrder, 0);

@@ -167,10 +167,10 @@ pub fn runs(text: &[u8], work: &mut [u32], list: &mut [u32]) -> Answer
 {
     let n = text.len();
     if n == 0 {
-        return answer::refused(Reason::EmptyInput, 0);
+        return answer::refused(Reason::EmptyText, 0);
     }
     if limits::MAX_LENGTH < n {
-        return answer::refused(Reason::TooLong, 0);
+        return answer::refused(Reason::TextTooLong, 0);
     }
     if list.len() < limits::run_list_length(n as u32) {
         return answer::refused(Reason::ShortOutput, 0);

@@ -6,17 +6,17 @@ use Prim.Native.Nat.{ℕ, _<_, _≤_}
 use borrow.Author.Tests.{lt-ltb, le-ltb, eq-eqb, ne-eqb}
 use Rattle.answer.specs.declared.Answer.{Answer}
 use Rattle.answer.specs.declared.Reason.{Reason}
-use Rattle.answer.specs.declared.Reason.the-variants.{EmptyInput, TooLong, ShortOutput}
+use Rattle.answer.specs.declared.Reason.the-variants.{EmptyText, TextTooLong, ShortOutput}
 use Rattle.answer.specs.Answers.{acceptedWith, refusedFor}
 use Rattle.answer.specs.Checks.{lengthChecked, outputChecked, written, contentAfter}
 use Rattle.answer.specs.Limits.{maxLength}
 
 -- Refusal 1.
-pub empty-refused : (n : ℕ) (rest : Answer) → n ≡ 0 → refusedFor EmptyInput 0 ≡ lengthChecked n rest
+pub empty-refused : (n : ℕ) (rest : Answer) → n ≡ 0 → refusedFor EmptyText 0 ≡ lengthChecked n rest
 empty-refused n rest e = sym (simp (eq-eqb n 0 e))
 
 -- Refusal 2.
-pub long-refused : (n : ℕ) (rest : Answer) → ¬ (n ≡ 0) → maxLength < n → refusedFor TooLong 0 ≡ lengthChecked n rest
+pub long-refused : (n : ℕ) (rest : Answer) → ¬ (n ≡ 0) → maxLength < n → refusedFor TextTooLong 0 ≡ lengthChecked n rest
 long-refused n rest e l = sym (simp (ne-eqb n 0 e, lt-ltb maxLength n l))
 
 -- Neither of the two.

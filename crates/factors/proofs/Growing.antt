@@ -7,8 +7,8 @@ use native.Mathlib.Omega.{arith}
 use lib.ListN.{length, getD, take}
 use lib.Seq.{getD-take, length-take-le}
 use Rattle.words.specs.LeftForest.{IsLeftForest}
-use Rattle.words.specs.Compute.Factorization.{factorizationOf, factorizationOf-right}
-use Rattle.words.specs.Compute.Forest.{leftFirstOf, leftPastOf, leftForestOf-right}
+use Rattle.words.specs.Compute.Factorization.{factorizationOf, factorizationOf-holds}
+use Rattle.words.specs.Compute.Forest.{leftFirstOf, leftPastOf, leftForestOf-holds}
 use Rattle.words.specs.Laws.SpanLyndon.{letters}
 use Rattle.words.specs.Laws.LongestEnding.{LongestEnding, longest-ending}
 use Rattle.words.specs.Laws.LeftForest.{Uncrossed, LeftRecords, longest-nested, records-left-forest}
@@ -117,7 +117,7 @@ module _ (x first past table : List ℕ) (room-first : Room x first) (room-past 
       forest-written =
           let s : List ℕ = factorizationOf decided-default x in
           let g : IsLeftForest defaultOrder x (leftFirstOf decided-default x s) (leftPastOf decided-default x s) =
-          leftForestOf-right decided-default x (factorizationOf-right decided-default x) in
+          leftForestOf-holds decided-default x (factorizationOf-holds decided-default x) in
           let q = left-forest-unique forest g in
           record {
             in-first =

@@ -8,7 +8,7 @@ use native.Mathlib.Decide.{decLt}
 use lib.ListN.{length, getD, drop, length-append, length-drop, List·getD-append}
 use lib.Seq.{ext-getD, getD-append-add, getD-drop}
 use Rattle.words.specs.SuffixTable.{IsSuffixTable}
-use Rattle.words.specs.Compute.SuffixTable.{suffixTableOf, suffixTableOf-right}
+use Rattle.words.specs.Compute.SuffixTable.{suffixTableOf, suffixTableOf-holds}
 use Rattle.words.specs.Laws.Unique.{longest-to-unique}
 use Rattle.answer.specs.Checks.{written}
 use Rattle.factors.specs.Default.{defaultOrder, decided-default}
@@ -37,7 +37,7 @@ written-places l before after f e front back =
 pub tabled-written : (x before after : List ℕ) → Room x before → Tabled x before after (length x) →
     after ≡ written (suffixTableOf decided-default x) before
 tabled-written x before after room w =
-    let t : IsSuffixTable defaultOrder x (suffixTableOf decided-default x) = suffixTableOf-right decided-default x in
+    let t : IsSuffixTable defaultOrder x (suffixTableOf decided-default x) = suffixTableOf-holds decided-default x in
     written-places (suffixTableOf decided-default x) before after (omega (arith, t .size, room .places)) (w .size)
     (λ j q. longest-to-unique (w .entry j (omega (arith, t .size))) (t .entry j (omega (arith, t .size))))
     (λ j q. w .past j (omega (arith, t .size)))

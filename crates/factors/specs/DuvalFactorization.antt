@@ -10,7 +10,7 @@ use lib.Dec.{ltb}
 use lib.ListN.{length}
 use borrow.Author.Tests.{ltb-true, ltb-false}
 use Rattle.words.specs.Letters.{Letters, Decided, Comparison, below, same, above, Means}
-use Rattle.words.specs.Compute.Factorization.{factorizationOf, factorizationOf-right}
+use Rattle.words.specs.Compute.Factorization.{factorizationOf, factorizationOf-holds}
 use Rattle.words.specs.Laws.SpanLyndon.{letters}
 use Rattle.words.specs.Laws.SuffixOrder.{NextSmaller}
 use Rattle.words.specs.Laws.Repetition.{Repetition, Stops, repetition-start, repetition-longer, repetition-extended, repetition-next, repetition-ends}
@@ -109,4 +109,4 @@ module _ {A : Type 0} {O : Letters A} (D : Decided O) (z : A) (x : List A) where
       factorization-unique O x (duval D z x) (factorizationOf D x)
       (chain-factorization O z x (duval D z x)
       (factorsFrom-chain (length x) 0 (record { period = 1; end = 0 }) (omega arith) (omega arith) (λ l. absurd (omega arith))))
-      (factorizationOf-right D x)
+      (factorizationOf-holds D x)

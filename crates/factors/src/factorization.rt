@@ -37,10 +37,10 @@ pub fn factorization(text: &[u8], out: &mut [u32]) -> Answer
 {
     let n = text.len();
     if n == 0 {
-        return answer::refused(Reason::EmptyInput, 0);
+        return answer::refused(Reason::EmptyText, 0);
     }
     if n > limits::max_length() {
-        return answer::refused(Reason::TooLong, 0);
+        return answer::refused(Reason::TextTooLong, 0);
     }
     if out.len() < n {
         return answer::refused(Reason::ShortOutput, 0);

@@ -84,10 +84,10 @@ pub fn left_forest(text: &[u8], first: &mut [u32], past: &mut [u32]) -> Answer
 {
     let n = text.len();
     if n == 0 {
-        return answer::refused(Reason::EmptyInput, 0);
+        return answer::refused(Reason::EmptyText, 0);
     }
     if n > limits::max_length() {
-        return answer::refused(Reason::TooLong, 0);
+        return answer::refused(Reason::TextTooLong, 0);
     }
     if first.len() < n {
         return answer::refused(Reason::ShortOutput, 0);

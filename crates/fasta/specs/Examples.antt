@@ -3,7 +3,7 @@
 use mathlib.Core.Path.{_≡_, refl}
 use mathlib.Core.List.{[], _∷_}
 use lib.ListN.{replicate}
-use Rattle.answer.specs.declared.Reason.the-variants.{ShortOutput, NoHeader, BadName, UnfitByte, SecondRecord, NoLetters, TooManyLetters, InputTooLong}
+use Rattle.answer.specs.declared.Reason.the-variants.{ShortOutput, NoHeader, BadName, UnfitByte, SecondRecord, NoLetters, TooManyLetters, FileTooLong}
 use Rattle.answer.specs.Answers.{acceptedWith, refusedFor}
 use Rattle.fasta.specs.Bytes.{headerMark, lineEnd}
 use Rattle.fasta.specs.Reader.{readerAnswer, lettersOf}
@@ -21,7 +21,7 @@ refusal-4 : readerAnswer [] 2047 ≡ refusedFor ShortOutput 0
 refusal-4 = refl
 
 -- 8,193 bytes.
-refusal-15 : readerAnswer (replicate 8193 headerMark) 2048 ≡ refusedFor InputTooLong 8192
+refusal-15 : readerAnswer (replicate 8193 headerMark) 2048 ≡ refusedFor FileTooLong 8192
 refusal-15 = refl
 
 -- No byte.

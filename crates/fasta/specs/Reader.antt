@@ -6,7 +6,7 @@ use Prim.Native.Nat.{ℕ, suc}
 use lib.Dec.{ltb, eqb}
 use lib.ListN.{length, drop}
 use Rattle.answer.specs.declared.Answer.{Answer}
-use Rattle.answer.specs.declared.Reason.the-variants.{NoHeader, BadName, SecondRecord, NoLetters, InputTooLong}
+use Rattle.answer.specs.declared.Reason.the-variants.{NoHeader, BadName, SecondRecord, NoLetters, FileTooLong}
 use Rattle.answer.specs.Answers.{acceptedWith, refusedFor}
 use Rattle.answer.specs.Checks.{pickAnswer, outputChecked}
 use Rattle.answer.specs.Limits.{maxLetters, maxInput}
@@ -50,7 +50,7 @@ answerFor (Finished count p) = pickAnswer (eqb count 0) (refusedFor NoLetters p)
 
 -- Refusal 15: an input of n bytes.
 abbrev pub sizeChecked : ℕ → Answer → Answer
-sizeChecked n rest = pickAnswer (ltb maxInput n) (refusedFor InputTooLong maxInput) rest
+sizeChecked n rest = pickAnswer (ltb maxInput n) (refusedFor FileTooLong maxInput) rest
 
 -- What the reader answers to the input x with a letters buffer of so many places.
 abbrev pub readerAnswer : List ℕ → ℕ → Answer

@@ -92,7 +92,7 @@ pub fn read(input: &[u8], letters: &mut [u8]) -> Answer
         return refused(Reason::ShortOutput, 0);
     }
     if max_input() < input.len() {
-        return refused(Reason::InputTooLong, max_input() as u32);
+        return refused(Reason::FileTooLong, max_input() as u32);
     }
     read_record(input, letters)
 }

@@ -6,7 +6,7 @@ use Prim.Native.Nat.{ℕ}
 use native.Mathlib.Omega.{arith}
 use lib.ListN.{length}
 use Rattle.words.specs.ValidArray.{Valid}
-use Rattle.words.specs.Compute.ValidArray.{Verdict, fits, fault, HasVerdict, checkArray, checkArray-right}
+use Rattle.words.specs.Compute.ValidArray.{Verdict, fits, fault, HasVerdict, checkArray, checkArray-holds}
 use Rattle.answer.specs.declared.Answer.{Answer}
 use Rattle.answer.specs.declared.Outcome.{Outcome}
 use Rattle.answer.specs.declared.Outcome.the-variants.{Accepted, Refused}
@@ -34,7 +34,7 @@ pub record Accepting (a : List ℕ) (count : ℕ) : Type 0 where
   pub answered : arrayChecked a ≡ acceptedWith (length a)
 
 pub accepting : (a : List ℕ) (r : Answer) (count : ℕ) → r ≡ arrayChecked a → r .outcome ≡ Accepted count → Accepting a count
-accepting a r count e o = go (checkArray a) refl (checkArray-right a)
+accepting a r count e o = go (checkArray a) refl (checkArray-holds a)
   where
     told : Accepted count ≡ arrayChecked a .outcome
     told = sym o ∙ ap (λ (q : Answer). q .outcome) e

@@ -6,7 +6,7 @@ use Prim.Native.Nat.{ℕ, _+_, _<_, _≤_}
 use native.Mathlib.Omega.{arith}
 use native.Mathlib.Decide.{decLt}
 use lib.ListN.{length, getD}
-use Rattle.words.specs.ValidArray.{zero-entry, long-entry, crossing, FirstBadEntry}
+use Rattle.words.specs.ValidArray.{zero-entry, long-entry, crossing, EarlierInRange}
 use Rattle.words.specs.Compute.ValidArray.{Verdict, fits, fault, HasVerdict}
 use Rattle.words.specs.Laws.ValidArray.{checkArray-computes}
 use Rattle.answer.specs.declared.Reason.the-variants.{ZeroEntry, LongEntry, CrossingSpans}
@@ -19,7 +19,7 @@ module _ (a : List ℕ) where
   answers : (v : Verdict) → HasVerdict a v → arrayChecked a ≡ verdictAnswer (length a) v
   answers v h = ap (verdictAnswer (length a)) (checkArray-computes a v h)
 
-  first-bad-entry : (r : ℕ) → FirstBad a r → r < length a → FirstBadEntry a r
+  first-bad-entry : (r : ℕ) → FirstBad a r → r < length a → EarlierInRange a r
   first-bad-entry r b h = record { inside = h; before = b .good }
 
   pub zero-verdict : (r : ℕ) → FirstBad a r → r < length a → getD a r 0 ≡ 0 → arrayChecked a ≡ refusedFor ZeroEntry r

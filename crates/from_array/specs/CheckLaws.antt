@@ -4,16 +4,16 @@ use mathlib.Core.Path.{_≡_}
 use Prim.Native.Nat.{ℕ, _<_, _≤_}
 use borrow.Author.Tests.{lt-ltb, le-ltb, eq-eqb, ne-eqb}
 use Rattle.answer.specs.declared.Answer.{Answer}
-use Rattle.answer.specs.declared.Reason.the-variants.{EmptyInput, TooLong, ShortOutput}
+use Rattle.answer.specs.declared.Reason.the-variants.{EmptyText, TextTooLong, ShortOutput}
 use Rattle.answer.specs.Answers.{refusedFor}
 use Rattle.answer.specs.Limits.{maxLength}
 use Rattle.answer.specs.Checks.{lengthChecked, outputChecked}
 
 module _ (n : ℕ) (rest : Answer) where
-  pub length-empty : n ≡ 0 → lengthChecked n rest ≡ refusedFor EmptyInput 0
+  pub length-empty : n ≡ 0 → lengthChecked n rest ≡ refusedFor EmptyText 0
   length-empty e = simp (eq-eqb n 0 e)
 
-  pub length-over : ¬ (n ≡ 0) → maxLength < n → lengthChecked n rest ≡ refusedFor TooLong 0
+  pub length-over : ¬ (n ≡ 0) → maxLength < n → lengthChecked n rest ≡ refusedFor TextTooLong 0
   length-over d h = simp (ne-eqb n 0 d, lt-ltb maxLength n h)
 
   pub length-passes : ¬ (n ≡ 0) → n ≤ maxLength → lengthChecked n rest ≡ rest

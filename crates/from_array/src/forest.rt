@@ -80,10 +80,10 @@ pub fn right_forest(array: &[u32], first: &mut [u32], past: &mut [u32]) -> Answe
 {
     let n = array.len();
     if n == 0 {
-        return answer::refused(Reason::EmptyInput, 0);
+        return answer::refused(Reason::EmptyText, 0);
     }
     if n > limits::max_length() {
-        return answer::refused(Reason::TooLong, 0);
+        return answer::refused(Reason::TextTooLong, 0);
     }
     if first.len() < n {
         return answer::refused(Reason::ShortOutput, 0);

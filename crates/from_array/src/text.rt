@@ -52,10 +52,10 @@ pub fn reconstruct(array: &[u32], text: &mut [u32]) -> Answer
 {
     let n = array.len();
     if n == 0 {
-        return answer::refused(Reason::EmptyInput, 0);
+        return answer::refused(Reason::EmptyText, 0);
     }
     if n > limits::max_length() {
-        return answer::refused(Reason::TooLong, 0);
+        return answer::refused(Reason::TextTooLong, 0);
     }
     if text.len() < n {
         return answer::refused(Reason::ShortOutput, 0);

@@ -13,7 +13,7 @@ use Rattle.words.specs.RightForest.{IsRightForest}
 use Rattle.words.specs.ValidArray.{Valid, Fault, textFor}
 use Rattle.words.specs.Permutation.{EachOnce}
 use Rattle.words.specs.ArrayForest.{forestFirst, forestPast}
-use Rattle.words.specs.Compute.ValidArray.{Verdict, fits, fault, HasVerdict, checkArray, checkArray-right}
+use Rattle.words.specs.Compute.ValidArray.{Verdict, fits, fault, HasVerdict, checkArray, checkArray-holds}
 use Rattle.words.specs.Laws.ValidArray.{valid-no-fault, checkArray-computes}
 use Rattle.words.specs.Laws.FactorChain.{factorization-unique}
 use Rattle.words.specs.Laws.ForestUnique.{right-forest-unique}
@@ -57,14 +57,14 @@ valid-exactly a = (
 -- The check passes exactly the arrays that some text has.
 pub passed-exactly : (a : List ℕ) → (checkArray a ≡ fits) ↔ TextWith a
 passed-exactly a = (
-  λ e. valid-exactly a .0 (subst (HasVerdict a) e (checkArray-right a)),
+  λ e. valid-exactly a .0 (subst (HasVerdict a) e (checkArray-holds a)),
   λ t. checkArray-computes a fits (valid-exactly a .1 t),
 )
 
 -- The check refuses an array exactly when no text has it.
 pub refused-exactly : (a : List ℕ) → Faulty a ↔ (¬ TextWith a)
 refused-exactly a = (
-  λ f t. valid-no-fault a (f .kind) (f .position) (valid-exactly a .1 t) (subst (HasVerdict a) (f .found) (checkArray-right a)),
+  λ f t. valid-no-fault a (f .kind) (f .position) (valid-exactly a .1 t) (subst (HasVerdict a) (f .found) (checkArray-holds a)),
   λ n. go n (checkArray a) refl,
 )
   where

@@ -12,12 +12,12 @@ use Rattle.words.specs.SuffixTable.{IsSuffixTable}
 use Rattle.words.specs.RightForest.{IsRightForest}
 use Rattle.words.specs.LeftForest.{IsLeftForest}
 use Rattle.words.specs.Runs.{Entry, IsRunList}
-use Rattle.words.specs.Compute.LyndonArray.{arrayOf, arrayOf-right}
-use Rattle.words.specs.Compute.Factorization.{factorizationOf, factorizationOf-right}
-use Rattle.words.specs.Compute.SuffixTable.{suffixTableOf, suffixTableOf-right}
-use Rattle.words.specs.Compute.Forest.{rightFirstOf, rightPastOf, leftFirstOf, leftPastOf, rightForestOf-right, leftForestOf-right}
-use Rattle.words.specs.Compute.Runs.{runsOf, runsOf-right}
-use Rattle.words.specs.Compute.ValidArray.{Verdict, HasVerdict, checkArray, checkArray-right}
+use Rattle.words.specs.Compute.LyndonArray.{arrayOf, arrayOf-holds}
+use Rattle.words.specs.Compute.Factorization.{factorizationOf, factorizationOf-holds}
+use Rattle.words.specs.Compute.SuffixTable.{suffixTableOf, suffixTableOf-holds}
+use Rattle.words.specs.Compute.Forest.{rightFirstOf, rightPastOf, leftFirstOf, leftPastOf, rightForestOf-holds, leftForestOf-holds}
+use Rattle.words.specs.Compute.Runs.{runsOf, runsOf-holds}
+use Rattle.words.specs.Compute.ValidArray.{Verdict, HasVerdict, checkArray, checkArray-holds}
 use Rattle.words.specs.Laws.Unique.{array-unique, suffix-table-unique}
 use Rattle.words.specs.Laws.FactorChain.{factorization-unique}
 use Rattle.words.specs.Laws.ForestUnique.{right-forest-unique, left-forest-unique}
@@ -37,24 +37,24 @@ pub record Buffers : Type 0 where
 
 module _ {A : Type 0} {O : Letters A} (D : Decided O) (x : List A) where
   pub one-array : ExactlyOne (IsLyndonArray O x)
-  one-array = record { value = arrayOf D x; holds = arrayOf-right D x; only = λ b h. array-unique h (arrayOf-right D x) }
+  one-array = record { value = arrayOf D x; holds = arrayOf-holds D x; only = λ b h. array-unique h (arrayOf-holds D x) }
 
   pub one-factorization : ExactlyOne (IsFactorization O x)
   one-factorization =
       record {
         value = factorizationOf D x;
-        holds = factorizationOf-right D x;
-        only = λ b h. factorization-unique O x b (factorizationOf D x) h (factorizationOf-right D x);
+        holds = factorizationOf-holds D x;
+        only = λ b h. factorization-unique O x b (factorizationOf D x) h (factorizationOf-holds D x);
       }
 
   pub one-suffix-table : ExactlyOne (IsSuffixTable O x)
   one-suffix-table =
-      record { value = suffixTableOf D x; holds = suffixTableOf-right D x; only = λ b h. suffix-table-unique h (suffixTableOf-right D x) }
+      record { value = suffixTableOf D x; holds = suffixTableOf-holds D x; only = λ b h. suffix-table-unique h (suffixTableOf-holds D x) }
 
   pub one-right-forest : ExactlyOne (λ (b : Buffers). IsRightForest O x (b .first) (b .past))
   one-right-forest =
       let s = factorizationOf D x in
-      let holds = rightForestOf-right D x (factorizationOf-right D x) in
+      let holds = rightForestOf-holds D x (factorizationOf-holds D x) in
       record {
         value = record { first = rightFirstOf D x s; past = rightPastOf D x s };
         holds = holds;
@@ -65,7 +65,7 @@ module _ {A : Type 0} {O : Letters A} (D : Decided O) (x : List A) where
   pub one-left-forest : ExactlyOne (λ (b : Buffers). IsLeftForest O x (b .first) (b .past))
   one-left-forest =
       let s = factorizationOf D x in
-      let holds = leftForestOf-right D x (factorizationOf-right D x) in
+      let holds = leftForestOf-holds D x (factorizationOf-holds D x) in
       record {
         value = record { first = leftFirstOf D x s; past = leftPastOf D x s };
         holds = holds;
@@ -74,7 +74,7 @@ module _ {A : Type 0} {O : Letters A} (D : Decided O) (x : List A) where
       }
 
 pub one-run-list : {A : Type 0} (E : DecidedEquality A) (x : List A) → ExactlyOne (IsRunList x)
-one-run-list E x = record { value = runsOf E x; holds = runsOf-right E x; only = λ b h. run-list-unique h (runsOf-right E x) }
+one-run-list E x = record { value = runsOf E x; holds = runsOf-holds E x; only = λ b h. run-list-unique h (runsOf-holds E x) }
 
 pub one-verdict : (a : List ℕ) → ExactlyOne (HasVerdict a)
-one-verdict a = record { value = checkArray a; holds = checkArray-right a; only = λ v h. verdict-unique a v (checkArray a) h (checkArray-right a) }
+one-verdict a = record { value = checkArray a; holds = checkArray-holds a; only = λ v h. verdict-unique a v (checkArray a) h (checkArray-holds a) }

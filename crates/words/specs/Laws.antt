@@ -4,7 +4,7 @@ pub mod Position
 pub mod SpanLyndon
 pub mod SuffixOrder
 pub mod NextSmaller
-pub mod Decided
+pub mod Compared
 pub mod ArrayNext
 pub mod FactorChain
 pub mod Tabulate

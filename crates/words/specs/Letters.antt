@@ -93,8 +93,8 @@ byTests false false = above
 abbrev pub compareNumbers : ℕ → ℕ → Comparison
 compareNumbers a b = byTests (ltb a b) (eqb a b)
 
-pub compareNumbers-right : (a b : ℕ) → Means rising (compareNumbers a b) a b
-compareNumbers-right a b = go (ltb a b) (eqb a b) refl refl
+pub compareNumbers-holds : (a b : ℕ) → Means rising (compareNumbers a b) a b
+compareNumbers-holds a b = go (ltb a b) (eqb a b) refl refl
   where
     go : (l e : Bool) → ltb a b ≡ l → eqb a b ≡ e → Means rising (byTests l e) a b
     go true e p q =
@@ -107,7 +107,7 @@ compareNumbers-right a b = go (ltb a b) (eqb a b) refl refl
         (λ z. d (sym z), omega (arith, d))
 
 abbrev pub decided-rising : Decided rising
-decided-rising = record { compare = compareNumbers; right = compareNumbers-right }
+decided-rising = record { compare = compareNumbers; right = compareNumbers-holds }
 
 abbrev pub decided-falling : Decided falling
 decided-falling = decided-reversed decided-rising

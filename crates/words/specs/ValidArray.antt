@@ -29,15 +29,15 @@ pub record Valid (a : List ℕ) : Type 0 where
 pub data Fault : Type 0 where
   zero-entry long-entry crossing : Fault
 
--- Entries are checked from the left; the first that is 0 or too long decides.
-pub record FirstBadEntry (a : List ℕ) (i : ℕ) : Type 0 where
+-- Entry i is there, and all entries before it are in range.
+pub record EarlierInRange (a : List ℕ) (i : ℕ) : Type 0 where
   pub inside : i < length a
   pub before : (k : ℕ) → k < i → InRange a k
 
 -- The first fault of a stands at i (document 01, "Where each check stands", rows 6, 7 and 8).
 abbrev pub FirstFault : List ℕ → Fault → ℕ → Type 0
-FirstFault a zero-entry i = FirstBadEntry a i × (getD a i 0 ≡ 0)
-FirstFault a long-entry i = FirstBadEntry a i × (1 ≤ getD a i 0) × (length a < i + getD a i 0)
+FirstFault a zero-entry i = EarlierInRange a i × (getD a i 0 ≡ 0)
+FirstFault a long-entry i = EarlierInRange a i × (1 ≤ getD a i 0) × (length a < i + getD a i 0)
 FirstFault a crossing j =
     ((i : ℕ) → i < length a → InRange a i) × (j < length a) × Crosses a j × ((k : ℕ) → k < j → ¬ Crosses a k)
 

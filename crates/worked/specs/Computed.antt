@@ -10,11 +10,11 @@ use Rattle.words.specs.SuffixTable.{IsSuffixTable}
 use Rattle.words.specs.RightForest.{IsRightForest}
 use Rattle.words.specs.LeftForest.{IsLeftForest}
 use Rattle.words.specs.ValidArray.{Fault, textFor}
-use Rattle.words.specs.Compute.LyndonArray.{arrayOf, arrayOf-right}
-use Rattle.words.specs.Compute.Factorization.{factorizationOf, factorizationOf-right}
-use Rattle.words.specs.Compute.SuffixTable.{suffixTableOf, suffixTableOf-right}
-use Rattle.words.specs.Compute.Forest.{rightFirstOf, rightPastOf, leftFirstOf, leftPastOf, rightForestOf-right, leftForestOf-right}
-use Rattle.words.specs.Compute.ValidArray.{Verdict, fits, fault, HasVerdict, checkArray, checkArray-right}
+use Rattle.words.specs.Compute.LyndonArray.{arrayOf, arrayOf-holds}
+use Rattle.words.specs.Compute.Factorization.{factorizationOf, factorizationOf-holds}
+use Rattle.words.specs.Compute.SuffixTable.{suffixTableOf, suffixTableOf-holds}
+use Rattle.words.specs.Compute.Forest.{rightFirstOf, rightPastOf, leftFirstOf, leftPastOf, rightForestOf-holds, leftForestOf-holds}
+use Rattle.words.specs.Compute.ValidArray.{Verdict, fits, fault, HasVerdict, checkArray, checkArray-holds}
 use Rattle.answer.specs.Faults.{reasonFor}
 use Rattle.answer.specs.Reasons.{numberOf}
 use Rattle.worked.specs.Example.{Example, array, factors, suffix-table, right-forest, left-forest, text, refused, Holds, AllHold}
@@ -32,25 +32,25 @@ Computed (text a x) = (checkArray a ≡ fits) × (textFor a ≡ x) × (arrayOf d
 Computed (refused a r p) = (f : Fault) × (checkArray a ≡ fault f p) × (numberOf (reasonFor f) ≡ r)
 
 pub computed-holds : (e : Example) → Computed e → Holds e
-computed-holds (array o x a) h = subst (IsLyndonArray (orderOf o) x) h (arrayOf-right (decided-order o) x)
-computed-holds (factors x s) h = subst (IsFactorization rising x) h (factorizationOf-right decided-rising x)
-computed-holds (suffix-table x t) h = subst (IsSuffixTable rising x) h (suffixTableOf-right decided-rising x)
+computed-holds (array o x a) h = subst (IsLyndonArray (orderOf o) x) h (arrayOf-holds (decided-order o) x)
+computed-holds (factors x s) h = subst (IsFactorization rising x) h (factorizationOf-holds decided-rising x)
+computed-holds (suffix-table x t) h = subst (IsSuffixTable rising x) h (suffixTableOf-holds decided-rising x)
 computed-holds (right-forest x f p) h =
     subst (λ (q : List ℕ). IsRightForest rising x f q) (h .1)
     (subst (λ (g : List ℕ). IsRightForest rising x g (rightPastOf decided-rising x (factorizationOf decided-rising x))) (h .0)
-    (rightForestOf-right decided-rising x (factorizationOf-right decided-rising x)))
+    (rightForestOf-holds decided-rising x (factorizationOf-holds decided-rising x)))
 computed-holds (left-forest x f p) h =
     subst (λ (q : List ℕ). IsLeftForest rising x f q) (h .1)
     (subst (λ (g : List ℕ). IsLeftForest rising x g (leftPastOf decided-rising x (factorizationOf decided-rising x))) (h .0)
-    (leftForestOf-right decided-rising x (factorizationOf-right decided-rising x)))
+    (leftForestOf-holds decided-rising x (factorizationOf-holds decided-rising x)))
 computed-holds (text a x) h =
     record {
-      valid = subst (HasVerdict a) (h .0) (checkArray-right a);
+      valid = subst (HasVerdict a) (h .0) (checkArray-holds a);
       is = h .1;
-      has = subst (IsLyndonArray rising x) (h .2) (arrayOf-right decided-rising x);
+      has = subst (IsLyndonArray rising x) (h .2) (arrayOf-holds decided-rising x);
     }
 computed-holds (refused a r p) h =
-    record { fault = h .0; first = subst (HasVerdict a) (h .1) (checkArray-right a); numbered = h .2 }
+    record { fault = h .0; first = subst (HasVerdict a) (h .1) (checkArray-holds a); numbered = h .2 }
 
 -- Every example of a table comes out by computation.
 abbrev pub AllComputed : List Example → Type 0

@@ -9,7 +9,7 @@ use Rattle.words.specs.Letters.{Letters, Smaller}
 use Rattle.words.specs.Laws.Position.{Agree, BelowWithin, SpanLyndon, SpanLess, differs, shorter}
 use Rattle.words.specs.Laws.SuffixOrder.{SuffixLess, ends, parts, NextSmaller, agree-sym, agree-trans, agree-less, agree-join, suffix-asym}
 use Rattle.words.specs.Laws.NextSmaller.{empty-suffix-less, next-lyndon, next-unique, next-nests, lyndon-next, lyndon-join, suffix-less}
-use Rattle.words.specs.Laws.Decided.{AllCompared, suffix-compare}
+use Rattle.words.specs.Laws.Compared.{AllCompared, suffix-compare}
 
 -- What is remembered of a factor longer than one letter that starts at c: its length stands at c, the entries inside it are final, and
 -- its last place, whose entry is known to be 1, holds a number of letters on which the factor agrees with the next one and with its last part.

@@ -12,8 +12,8 @@ use Rattle.words.specs.Letters.{Letters, orderOf, decided-order}
 use Rattle.words.specs.Laws.SpanLyndon.{letters}
 use Rattle.words.specs.Laws.SuffixOrder.{NextSmaller}
 use Rattle.words.specs.Laws.ArrayNext.{array-next}
-use Rattle.words.specs.Laws.Decided.{AllCompared}
-use Rattle.words.specs.Compute.LyndonArray.{arrayOf, arrayOf-right}
+use Rattle.words.specs.Laws.Compared.{AllCompared}
+use Rattle.words.specs.Compute.LyndonArray.{arrayOf, arrayOf-holds}
 use Rattle.words.specs.Compute.Factorization.{decided-compared}
 use Rattle.array.specs.Core.Joining.{Rows}
 
@@ -28,14 +28,14 @@ letters-compared order x = decided-compared (decided-order order) (letters 0 x) 
 pub entry-next : (order : ℕ) (x : List ℕ) (t : ℕ) → t < length x → NextSmaller (orderOf order) (letters 0 x) (length x) t (t + entryOf order x t)
 unfolding entryOf
 entry-next order x t l =
-    array-next (orderOf order) 0 x (letters-compared order x) (arrayOf (decided-order order) x) (arrayOf-right (decided-order order) x) t l
+    array-next (orderOf order) 0 x (letters-compared order x) (arrayOf (decided-order order) x) (arrayOf-holds (decided-order order) x) t l
 
 -- A list with these entries is the Lyndon array.
 pub entries-array : (order : ℕ) (x l : List ℕ) → length l ≡ length x → ((t : ℕ) → t < length x → getD l t 0 ≡ entryOf order x t) →
     l ≡ arrayOf (decided-order order) x
 unfolding entryOf
 entries-array order x l e h =
-    ext-getD 0 l (arrayOf (decided-order order) x) (e ∙ sym (arrayOf-right (decided-order order) x .size)) (λ i p. h i (omega arith))
+    ext-getD 0 l (arrayOf (decided-order order) x) (e ∙ sym (arrayOf-holds (decided-order order) x .size)) (λ i p. h i (omega arith))
 
 -- The buffer from c on, factor by factor.
 abbrev pub RowsOf : ℕ → List ℕ → List ℕ → ℕ → Type 0

@@ -7,7 +7,7 @@ use native.Mathlib.Omega.{arith}
 use borrow.Author.Tests.{lt-ltb, le-ltb}
 use lib.ListN.{length}
 use Rattle.answer.specs.declared.Answer.{Answer}
-use Rattle.answer.specs.declared.Reason.the-variants.{ShortOutput, InputTooLong}
+use Rattle.answer.specs.declared.Reason.the-variants.{ShortOutput, FileTooLong}
 use Rattle.answer.specs.Answers.{refusedFor}
 use Rattle.answer.specs.Checks.{contentAfter}
 use Rattle.answer.specs.Limits.{maxLetters, maxInput}
@@ -19,7 +19,7 @@ use Rattle.fasta.proofs.read.Tie as tie
 short-output : (x : List ℕ) (places : ℕ) → places < maxLetters → readerAnswer x places ≡ refusedFor ShortOutput 0
 short-output x places h = rw (lt-ltb places maxLetters h)
 
-too-long : (x : List ℕ) (places : ℕ) → maxLetters ≤ places → maxInput < length x → readerAnswer x places ≡ refusedFor InputTooLong maxInput
+too-long : (x : List ℕ) (places : ℕ) → maxLetters ≤ places → maxInput < length x → readerAnswer x places ≡ refusedFor FileTooLong maxInput
 too-long x places h k = rw (le-ltb places maxLetters h, lt-ltb maxInput (length x) k)
 
 fitting : (x : List ℕ) (places : ℕ) → maxLetters ≤ places → length x ≤ maxInput → readerAnswer x places ≡ answerFor (recordEnding x 0)
@@ -54,7 +54,7 @@ refused-requires-2 c κs = search needs
 returns-2 : tie.Need-returns-2
 returns-2 c =
     let args = c .before .before .before .before .before .before .before .before .args in
-    let e = c .refused2 .ensures ∙ ap (refusedFor InputTooLong) (c .before .max-input2 .ensures) in (
+    let e = c .refused2 .ensures ∙ ap (refusedFor FileTooLong) (c .before .max-input2 .ensures) in (
       e ∙ sym (too-long (args .input .now) (length (args .letters .now)) (omega arith) (omega arith)),
       sym (ap (λ (a : Answer). contentAfter a (lettersOf (args .input .now)) (args .letters .now)) e),
     )

@@ -10,7 +10,7 @@ use lib.Dec.{ltb, eqb}
 use lib.ListN.{length, take, drop}
 use lib.Seq.{take-at}
 use Rattle.answer.specs.declared.Reason.{Reason}
-use Rattle.answer.specs.declared.Reason.the-variants.{ShortOutput, NoHeader, UnfitByte, NoLetters, TooManyLetters, InputTooLong}
+use Rattle.answer.specs.declared.Reason.the-variants.{ShortOutput, NoHeader, UnfitByte, NoLetters, TooManyLetters, FileTooLong}
 use Rattle.answer.specs.declared.Outcome.the-variants.{Accepted}
 use Rattle.answer.specs.Answers.{acceptedWith, refusedFor}
 use Rattle.answer.specs.Checks.{pickAnswer, written}
@@ -173,7 +173,7 @@ pub reader-accepted : (x : List ℕ) (places count : ℕ) → readerAnswer x pla
 reader-accepted x places count h = go (ltb places maxLetters) (ltb maxInput (length x)) h
   where
     go : (s t : Bool)
-        → pickAnswer s (refusedFor ShortOutput 0) (pickAnswer t (refusedFor InputTooLong maxInput) (answerFor (recordEnding x 0))) .outcome
+        → pickAnswer s (refusedFor ShortOutput 0) (pickAnswer t (refusedFor FileTooLong maxInput) (answerFor (recordEnding x 0))) .outcome
         ≡ Accepted count
         → AcceptedInput x count
     go true t e = let z : _≡_ {A = ℕ} 0 1 = cc in absurd (omega arith)

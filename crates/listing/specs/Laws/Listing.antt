@@ -11,7 +11,7 @@ use Rattle.words.specs.Equality.{decided-number-equality}
 use Rattle.words.specs.Runs.{Entry, numbers}
 use Rattle.words.specs.Compute.Runs.{runsOf}
 use Rattle.answer.specs.declared.Reason.{Reason}
-use Rattle.answer.specs.declared.Reason.the-variants.{InputTooLong}
+use Rattle.answer.specs.declared.Reason.the-variants.{FileTooLong}
 use Rattle.answer.specs.declared.Outcome.{Outcome}
 use Rattle.answer.specs.declared.Outcome.the-variants.{Accepted, Refused}
 use Rattle.answer.specs.Checks.{written}
@@ -68,5 +68,5 @@ pub listing-refused :
 listing-refused x reason position e = ap (λ (o : Outcome). listingFor o x) e
 
 -- An input over the limit is refused for its size, whatever it holds.
-pub listing-long : (x : List ℕ) → maxInput < length x → listingOf x ≡ refusalLine (numberOf InputTooLong) maxInput
-listing-long x h = listing-refused x InputTooLong maxInput (rw (lt-ltb maxInput (length x) h))
+pub listing-long : (x : List ℕ) → maxInput < length x → listingOf x ≡ refusalLine (numberOf FileTooLong) maxInput
+listing-long x h = listing-refused x FileTooLong maxInput (rw (lt-ltb maxInput (length x) h))

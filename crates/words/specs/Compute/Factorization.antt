@@ -11,10 +11,10 @@ use Rattle.words.specs.Letters.{Letters, Decided}
 use Rattle.words.specs.Factorization.{IsFactorization}
 use Rattle.words.specs.Laws.SpanLyndon.{letters}
 use Rattle.words.specs.Laws.SuffixOrder.{NextSmaller}
-use Rattle.words.specs.Laws.Decided.{AllCompared}
+use Rattle.words.specs.Laws.Compared.{AllCompared}
 use Rattle.words.specs.Laws.ArrayNext.{LeadsToNext, array-next}
 use Rattle.words.specs.Laws.FactorChain.{Chain, chain-factorization}
-use Rattle.words.specs.Compute.LyndonArray.{arrayOf, arrayOf-right}
+use Rattle.words.specs.Compute.LyndonArray.{arrayOf, arrayOf-holds}
 
 -- i, i + entry i, and so on while below the length, at most `fuel` of them.
 abbrev pub startsFrom : List ℕ → ℕ → ℕ → List ℕ
@@ -45,9 +45,9 @@ module _ {A : Type 0} (O : Letters A) (z : A) (x : List A) (a : List ℕ) (size 
   pub starts-chain : Chain O (letters z x) (length x) 0 (startsFrom a (length x) 0)
   starts-chain = startsFrom-chain (length x) 0 (omega arith) (omega arith)
 
-pub factorizationOf-right : {A : Type 0} {O : Letters A} (D : Decided O) (x : List A) → IsFactorization O x (factorizationOf D x)
-factorizationOf-right D [] = record { factors = []; whole = refl; lyndon = tt; never-rising = tt; places = refl }
-factorizationOf-right {O = O} D (c ∷ x) =
+pub factorizationOf-holds : {A : Type 0} {O : Letters A} (D : Decided O) (x : List A) → IsFactorization O x (factorizationOf D x)
+factorizationOf-holds D [] = record { factors = []; whole = refl; lyndon = tt; never-rising = tt; places = refl }
+factorizationOf-holds {O = O} D (c ∷ x) =
     chain-factorization O c (c ∷ x) (factorizationOf D (c ∷ x))
-    (starts-chain O c (c ∷ x) (arrayOf D (c ∷ x)) (arrayOf-right D (c ∷ x) .size)
-    (array-next O c (c ∷ x) (decided-compared D (letters c (c ∷ x)) (length (c ∷ x))) (arrayOf D (c ∷ x)) (arrayOf-right D (c ∷ x))))
+    (starts-chain O c (c ∷ x) (arrayOf D (c ∷ x)) (arrayOf-holds D (c ∷ x) .size)
+    (array-next O c (c ∷ x) (decided-compared D (letters c (c ∷ x)) (length (c ∷ x))) (arrayOf D (c ∷ x)) (arrayOf-holds D (c ∷ x))))

@@ -15,12 +15,12 @@ use Rattle.words.specs.CutTree.{CutTree, letter, cut, Recorded, Tree, Is
 use Rattle.words.specs.RightForest.{RightCut, IsRightForest}
 use Rattle.words.specs.LeftForest.{LeftCut, IsLeftForest}
 use Rattle.words.specs.Compute.Lyndon.{lyndonb, lyndonb-lyndon, lyndon-lyndonb, letter-passes}
-use Rattle.words.specs.Compute.Search.{greatestBelow, GreatestBelow, greatestBelow-right, at-most-greatest, leastFrom, LeastFrom, leastFrom-right, least-at-most}
+use Rattle.words.specs.Compute.Search.{greatestBelow, GreatestBelow, greatestBelow-holds, at-most-greatest, leastFrom, LeastFrom, leastFrom-holds, least-at-most}
 use Rattle.words.specs.Laws.Factorization.{Divides, division-reaches, factors-divide}
 
 -- What FIRST records of a cut of the span from a to b.
-abbrev pub fromOf : ℕ → ℕ → ℕ
-fromOf a b = a
+abbrev pub firstOf : ℕ → ℕ → ℕ
+firstOf a b = a
 
 -- What PAST records of a cut of the span from a to b.
 abbrev pub pastOf : ℕ → ℕ → ℕ
@@ -52,7 +52,7 @@ leftCutAt D x a b = greatestBelow (λ k. lyndonb D (span a k x)) b
 
 -- FIRST of the right forest of x, whose factors start at s.
 abbrev pub rightFirstOf : {A : Type 0} {O : Letters A} → Decided O → List A → List ℕ → List ℕ
-rightFirstOf D x s = forestOf (rightCutAt D x) fromOf (length x) s
+rightFirstOf D x s = forestOf (rightCutAt D x) firstOf (length x) s
 
 -- PAST of the right forest of x, whose factors start at s.
 abbrev pub rightPastOf : {A : Type 0} {O : Letters A} → Decided O → List A → List ℕ → List ℕ
@@ -60,7 +60,7 @@ rightPastOf D x s = forestOf (rightCutAt D x) pastOf (length x) s
 
 -- FIRST of the left forest of x, whose factors start at s.
 abbrev pub leftFirstOf : {A : Type 0} {O : Letters A} → Decided O → List A → List ℕ → List ℕ
-leftFirstOf D x s = forestOf (leftCutAt D x) fromOf (length x) s
+leftFirstOf D x s = forestOf (leftCutAt D x) firstOf (length x) s
 
 -- PAST of the left forest of x, whose factors start at s.
 abbrev pub leftPastOf : {A : Type 0} {O : Letters A} → Decided O → List A → List ℕ → List ℕ
@@ -141,19 +141,19 @@ module _ {Rule : ℕ → ℕ → ℕ → Type 0} {cutAt : ℕ → ℕ → ℕ} {
 
   -- Lists that hold what is recorded of a span record a tree of it.
   recorded-tree : (first past : List ℕ) (d a b : ℕ) → a < b → b ≤ n → b ≤ a + d
-      → Written cutAt fromOf first d a b → Written cutAt pastOf past d a b → (t : CutTree Rule a b) × Recorded first past t
+      → Written cutAt firstOf first d a b → Written cutAt pastOf past d a b → (t : CutTree Rule a b) × Recorded first past t
   recorded-tree first past zero a b h f g v w = absurd (omega arith)
   recorded-tree first past (suc d) a b h f g v w = go (ltb (suc a) b) refl (recorded-tree first past d)
     where
       go : (t : Bool) → ltb (suc a) b ≡ t
-          → ((a b : ℕ) → a < b → b ≤ n → b ≤ a + d → Written cutAt fromOf first d a b → Written cutAt pastOf past d a b
+          → ((a b : ℕ) → a < b → b ≤ n → b ≤ a + d → Written cutAt firstOf first d a b → Written cutAt pastOf past d a b
           → (t : CutTree Rule a b) × Recorded first past t)
           → (t : CutTree Rule a b) × Recorded first past t
       go true e r =
           let j : suc a < b = ltb→lt (suc a) b (rw e tt) in
           let i = cut-inside a b j f in
           let c = cutAt a b in
-          let p = written-parts fromOf first d a b e f g v in
+          let p = written-parts firstOf first d a b e f g v in
           let q = written-parts pastOf past d a b e f g w in
           let s = r a c (i .0) (omega arith) (omega arith) (p .first-part) (q .first-part) in
           let t = r c b (i .1) f (omega arith) (p .second-part) (q .second-part) in
@@ -190,50 +190,50 @@ module _ {Rule : ℕ → ℕ → ℕ → Type 0} {cutAt : ℕ → ℕ → ℕ} {
       )
 
   -- Lists that hold what is recorded of all positions from i on have a tree for each factor from i on.
-  factor-trees : (first past : List ℕ) (i : ℕ) (s : List ℕ) → Divides i s n → drop i first ≡ forestOf cutAt fromOf n s
+  factor-trees : (first past : List ℕ) (i : ℕ) (s : List ℕ) → Divides i s n → drop i first ≡ forestOf cutAt firstOf n s
       → drop i past ≡ forestOf cutAt pastOf n s → (k : ℕ) → k < length s
       → Tree Rule first past (getD s k 0) (getD s (suc k) n)
   factor-trees first past i [] d e g k h = absurd (omega arith)
   factor-trees first past i (a ∷ s) d e g zero h =
       let b = getD s 0 n in
       let f : b ≤ n = division-reaches b s n (d .2) 0 in
-      let p = drop-factor fromOf first i a s d e in
+      let p = drop-factor firstOf first i a s d e in
       let q = drop-factor pastOf past i a s d g in
       let t = recorded-tree first past n a b (d .1) f (omega arith) (p .1) (q .1) in
       record { own-first = p .0; own-past = q .0; tree = t .0; recorded = t .1 }
   factor-trees first past i (a ∷ s) d e g (suc k) h =
       factor-trees first past (getD s 0 n) s (d .2)
-      (drop-factor fromOf first i a s d e .2)
+      (drop-factor firstOf first i a s d e .2)
       (drop-factor pastOf past i a s d g .2)
       k
       (omega arith)
 
 -- The lists computed from a rule's cuts are the forest under that rule.
-pub forestOf-right : {A : Type 0} {O : Letters A} {x : List A} {s : List ℕ} {Rule : ℕ → ℕ → ℕ → Type 0} {cutAt : ℕ → ℕ → ℕ}
+pub forestOf-holds : {A : Type 0} {O : Letters A} {x : List A} {s : List ℕ} {Rule : ℕ → ℕ → ℕ → Type 0} {cutAt : ℕ → ℕ → ℕ}
     → CutsBy Rule cutAt (length x) → IsFactorization O x s
-    → IsForest O Rule x (forestOf cutAt fromOf (length x) s) (forestOf cutAt pastOf (length x) s)
-forestOf-right {x = x} {s = s} {cutAt = cutAt} R F =
+    → IsForest O Rule x (forestOf cutAt firstOf (length x) s) (forestOf cutAt pastOf (length x) s)
+forestOf-holds {x = x} {s = s} {cutAt = cutAt} R F =
     let n = length x in
     let d = factors-divide F in
     record {
-      first-size = omega (arith, length-forestOf R fromOf 0 s d);
+      first-size = omega (arith, length-forestOf R firstOf 0 s d);
       past-size = omega (arith, length-forestOf R pastOf 0 s d);
       factor-starts = s;
       factorization = F;
-      factor = factor-trees R (forestOf cutAt fromOf n s) (forestOf cutAt pastOf n s) 0 s d refl refl;
+      factor = factor-trees R (forestOf cutAt firstOf n s) (forestOf cutAt pastOf n s) 0 s d refl refl;
     }
 
 module _ {A : Type 0} {O : Letters A} (D : Decided O) (x : List A) where
   -- The computed right cut is the one of the right forest's rule.
-  pub rightCutAt-right : CutsBy (RightCut O x) (rightCutAt D x) (length x)
-  rightCutAt-right = record { inside = λ a c b r. (r .proper, r .inside); right = right }
+  pub rightCutAt-holds : CutsBy (RightCut O x) (rightCutAt D x) (length x)
+  rightCutAt-holds = record { inside = λ a c b r. (r .proper, r .inside); right = right }
     where
       right : (a b : ℕ) → suc a < b → b ≤ length x → RightCut O x a (rightCutAt D x a b) b
       right a (suc e) h f =
           let c = rightCutAt D x a (suc e) in
           let p : ℕ → Bool = λ k. lyndonb D (span k (suc e) x) in
           let one : T (p e) = letter-passes D x e f in
-          let g : LeastFrom p (suc a) c = leastFrom-right p (suc a) (suc e - suc a) e (omega arith) (omega arith) one in
+          let g : LeastFrom p (suc a) c = leastFrom-holds p (suc a) (suc e - suc a) e (omega arith) (omega arith) one in
           record {
             proper = g .reached;
             inside = omega (arith, least-at-most g e (omega arith) one);
@@ -243,15 +243,15 @@ module _ {A : Type 0} {O : Letters A} (D : Decided O) (x : List A) where
       right a zero h f = absurd (omega arith)
 
   -- The computed left cut is the one of the left forest's rule.
-  pub leftCutAt-right : CutsBy (LeftCut O x) (leftCutAt D x) (length x)
-  leftCutAt-right = record { inside = λ a c b r. (r .non-empty, r .proper); right = right }
+  pub leftCutAt-holds : CutsBy (LeftCut O x) (leftCutAt D x) (length x)
+  leftCutAt-holds = record { inside = λ a c b r. (r .non-empty, r .proper); right = right }
     where
       right : (a b : ℕ) → suc a < b → b ≤ length x → LeftCut O x a (leftCutAt D x a b) b
       right a b h f =
           let c = leftCutAt D x a b in
           let p : ℕ → Bool = λ k. lyndonb D (span a k x) in
           let one : T (p (suc a)) = letter-passes D x a (omega arith) in
-          let g : GreatestBelow p b c = greatestBelow-right p b (suc a) h one in
+          let g : GreatestBelow p b c = greatestBelow-holds p b (suc a) h one in
           record {
             non-empty = at-most-greatest g (suc a) h one;
             proper = g .below;
@@ -260,9 +260,9 @@ module _ {A : Type 0} {O : Letters A} (D : Decided O) (x : List A) where
           }
 
   -- The computed lists are the right forest.
-  pub rightForestOf-right : {s : List ℕ} → IsFactorization O x s → IsRightForest O x (rightFirstOf D x s) (rightPastOf D x s)
-  rightForestOf-right F = forestOf-right rightCutAt-right F
+  pub rightForestOf-holds : {s : List ℕ} → IsFactorization O x s → IsRightForest O x (rightFirstOf D x s) (rightPastOf D x s)
+  rightForestOf-holds F = forestOf-holds rightCutAt-holds F
 
   -- The computed lists are the left forest.
-  pub leftForestOf-right : {s : List ℕ} → IsFactorization O x s → IsLeftForest O x (leftFirstOf D x s) (leftPastOf D x s)
-  leftForestOf-right F = forestOf-right leftCutAt-right F
+  pub leftForestOf-holds : {s : List ℕ} → IsFactorization O x s → IsLeftForest O x (leftFirstOf D x s) (leftPastOf D x s)
+  leftForestOf-holds F = forestOf-holds leftCutAt-holds F

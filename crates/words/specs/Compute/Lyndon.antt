@@ -61,8 +61,8 @@ module _ {A : Type 0} {O : Letters A} (D : Decided O) where
   lyndon-lyndonb (a ∷ w) l = belowSuffixes-passes (a ∷ w) w (λ u v e d. l .smaller (a ∷ u) v (cc) cons≢nil d)
 
   -- The test decides whether a word is a Lyndon word.
-  pub lyndonb-right : (w : List A) → T (lyndonb D w) ↔ Lyndon O w
-  lyndonb-right w = (lyndonb-lyndon w, lyndon-lyndonb w)
+  pub lyndonb-holds : (w : List A) → T (lyndonb D w) ↔ Lyndon O w
+  lyndonb-holds w = (lyndonb-lyndon w, lyndon-lyndonb w)
 
   -- One letter of a text is a Lyndon word.
   pub letter-passes : (x : List A) (i : ℕ) → i < length x → T (lyndonb D (span i (suc i) x))

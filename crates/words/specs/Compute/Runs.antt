@@ -79,9 +79,9 @@ runsFrom E x s = listFrom (entryAt E x s) s (length x - s)
 abbrev pub runsOf : {A : Type 0} → DecidedEquality A → List A → List Entry
 runsOf E x = listFrom (runsFrom E x) 0 (length x)
 
-pub allFrom-right : (f : ℕ → Bool) (i d : ℕ) → T (allFrom f i d) ↔ ((k : ℕ) → i ≤ k → k < i + d → T (f k))
-allFrom-right f i zero = (λ t k h l. absurd (omega arith), λ g. tt)
-allFrom-right f i (suc d) = go (f i) refl (allFrom-right f (suc i) d)
+pub allFrom-holds : (f : ℕ → Bool) (i d : ℕ) → T (allFrom f i d) ↔ ((k : ℕ) → i ≤ k → k < i + d → T (f k))
+allFrom-holds f i zero = (λ t k h l. absurd (omega arith), λ g. tt)
+allFrom-holds f i (suc d) = go (f i) refl (allFrom-holds f (suc i) d)
   where
     go : (b : Bool) → f i ≡ b → T (allFrom f (suc i) d) ↔ ((k : ℕ) → suc i ≤ k → k < suc i + d → T (f k))
         → T (elim b [ true ↦ allFrom f (suc i) d | false ↦ false ]) ↔ ((k : ℕ) → i ≤ k → k < i + suc d → T (f k))
@@ -97,9 +97,9 @@ abbrev pub FirstFrom : (ℕ → Bool) → ℕ → ℕ → Option ℕ → Type 0
 FirstFrom f i d none = (k : ℕ) → i ≤ k → k < i + d → ¬ T (f k)
 FirstFrom f i d (some p) = (i ≤ p) × (p < i + d) × T (f p) × ((k : ℕ) → i ≤ k → k < p → ¬ T (f k))
 
-pub firstFrom-right : (f : ℕ → Bool) (i d : ℕ) → FirstFrom f i d (firstFrom f i d)
-firstFrom-right f i zero = λ k h l t. omega arith
-firstFrom-right f i (suc d) = go (f i) refl (firstFrom f (suc i) d) (firstFrom-right f (suc i) d)
+pub firstFrom-holds : (f : ℕ → Bool) (i d : ℕ) → FirstFrom f i d (firstFrom f i d)
+firstFrom-holds f i zero = λ k h l t. omega arith
+firstFrom-holds f i (suc d) = go (f i) refl (firstFrom f (suc i) d) (firstFrom-holds f (suc i) d)
   where
     past : f i ≡ false → (k : ℕ) → i ≤ k → (suc i ≤ k → ¬ T (f k)) → ¬ T (f k)
     past e k h g t = at (ℕ-discrete i k)
@@ -120,13 +120,13 @@ equalAt-right E none (some b) = (λ t. absurd t, Option·none-ne-some b)
 equalAt-right E (some a) none = (λ t. absurd t, Option·some-ne-none a)
 equalAt-right E (some a) (some b) = (λ t. ap some (E .right a b .0 t), λ e. E .right a b .1 (Option·some-injective a b e))
 
-pub and-right : (a b : Bool) → T (a && b) ↔ (T a × T b)
-and-right true b = (λ t. (tt, t), λ h. h .1)
-and-right false b = (λ t. absurd t, λ h. absurd (h .0))
+pub and-holds : (a b : Bool) → T (a && b) ↔ (T a × T b)
+and-holds true b = (λ t. (tt, t), λ h. h .1)
+and-holds false b = (λ t. absurd t, λ h. absurd (h .0))
 
-pub or-right : (a b : Bool) → T (a || b) ↔ (¬ T a → T b)
-or-right true b = (λ t h. absurd (h tt), λ h. tt)
-or-right false b = (λ t h. t, λ h. h (λ t. t))
+pub or-holds : (a b : Bool) → T (a || b) ↔ (¬ T a → T b)
+or-holds true b = (λ t h. absurd (h tt), λ h. tt)
+or-holds false b = (λ t h. t, λ h. h (λ t. t))
 
 -- What the answer of periodOf says of the span from s to e.
 abbrev pub Found : {A : Type 0} → List A → ℕ → ℕ → Option ℕ → Type 0
@@ -134,35 +134,35 @@ Found x s e none = (p : ℕ) → ¬ Run x s e p
 Found x s e (some p) = Run x s e p
 
 module _ {A : Type 0} (E : DecidedEquality A) (x : List A) where
-  pub sameLetter-right : (i k : ℕ) → T (sameLetter E x i k) ↔ SameLetter x i k
-  sameLetter-right i k = equalAt-right E (getElem? x i) (getElem? x k)
+  pub sameLetter-holds : (i k : ℕ) → T (sameLetter E x i k) ↔ SameLetter x i k
+  sameLetter-holds i k = equalAt-right E (getElem? x i) (getElem? x k)
 
   pub differs-right : (i k : ℕ) → T (not (sameLetter E x i k)) ↔ (¬ SameLetter x i k)
   differs-right i k = (
-    λ t h. T-not (sameLetter E x i k) t (sameLetter-right i k .1 h),
-    λ n. not-T (sameLetter E x i k) (λ t. n (sameLetter-right i k .0 t)),
+    λ t h. T-not (sameLetter E x i k) t (sameLetter-holds i k .1 h),
+    λ n. not-T (sameLetter E x i k) (λ t. n (sameLetter-holds i k .0 t)),
   )
 
-  pub hasPeriod-right : (s e p : ℕ) → T (hasPeriod E x s e p) ↔ HasPeriod x s e p
-  hasPeriod-right s e p =
-      let all = allFrom-right (λ i. sameLetter E x i (i + p)) s (e - (s + p)) in (
-        λ t i h l. sameLetter-right i (i + p) .0 (all .0 t i h (omega arith)),
-        λ g. all .1 (λ i h l. sameLetter-right i (i + p) .1 (g i h (omega arith))),
+  pub hasPeriod-holds : (s e p : ℕ) → T (hasPeriod E x s e p) ↔ HasPeriod x s e p
+  hasPeriod-holds s e p =
+      let all = allFrom-holds (λ i. sameLetter E x i (i + p)) s (e - (s + p)) in (
+        λ t i h l. sameLetter-holds i (i + p) .0 (all .0 t i h (omega arith)),
+        λ g. all .1 (λ i h l. sameLetter-holds i (i + p) .1 (g i h (omega arith))),
       )
 
-  pub stopsLeft-right : (s p : ℕ) → T (stopsLeft E x s p) ↔ ((i : ℕ) → s ≡ suc i → ¬ SameLetter x i (i + p))
-  stopsLeft-right zero p = (λ t i e. absurd (omega arith), λ g. tt)
-  stopsLeft-right (suc j) p = (
+  pub stopsLeft-holds : (s p : ℕ) → T (stopsLeft E x s p) ↔ ((i : ℕ) → s ≡ suc i → ¬ SameLetter x i (i + p))
+  stopsLeft-holds zero p = (λ t i e. absurd (omega arith), λ g. tt)
+  stopsLeft-holds (suc j) p = (
     λ t i e h.
         let z : i ≡ j = omega arith in
         differs-right j (j + p) .0 t (rw z at h),
     λ g. differs-right j (j + p) .1 (g j refl),
   )
 
-  pub stopsRight-right :
+  pub stopsRight-holds :
       (e p : ℕ) → p ≤ e → T (stopsRight E x e p) ↔ ((i : ℕ) → e ≡ i + p → e < length x → ¬ SameLetter x i e)
-  stopsRight-right e p l =
-      let either = or-right (leb (length x) e) (not (sameLetter E x (e - p) e)) in (
+  stopsRight-holds e p l =
+      let either = or-holds (leb (length x) e) (not (sameLetter E x (e - p) e)) in (
         λ t i z h s.
             let y : i ≡ e - p = omega arith in
             differs-right (e - p) e .0 (either .0 t (λ u. omega (arith, leb→le (length x) e u))) (rw y at s),
@@ -177,17 +177,17 @@ module _ {A : Type 0} (E : DecidedEquality A) (x : List A) where
   pub periodKept-right :
       (s e : ℕ) → e ≤ length x → (o : Option ℕ) → FirstFrom (hasPeriod E x s e) 1 ((e - s) / 2) o
       → Found x s e (periodKept E x s e o)
-  periodKept-right s e l none f = λ p r. f p (r .positive) (omega arith) (hasPeriod-right s e p .1 (r .period))
+  periodKept-right s e l none f = λ p r. f p (r .positive) (omega arith) (hasPeriod-holds s e p .1 (r .period))
   periodKept-right s e l (some p) f = go (stopsLeft E x s p && stopsRight E x e p) refl
     where
       stops : T (stopsLeft E x s p && stopsRight E x e p) ↔ (T (stopsLeft E x s p) × T (stopsRight E x e p))
-      stops = and-right (stopsLeft E x s p) (stopsRight E x e p)
+      stops = and-holds (stopsLeft E x s p) (stopsRight E x e p)
 
       smaller : (q : ℕ) → 0 < q → q < p → ¬ HasPeriod x s e q
-      smaller q h k g = f .3 q h k (hasPeriod-right s e q .1 g)
+      smaller q h k g = f .3 q h k (hasPeriod-holds s e q .1 g)
 
       period : HasPeriod x s e p
-      period = hasPeriod-right s e p .0 (f .2)
+      period = hasPeriod-holds s e p .0 (f .2)
 
       go : (b : Bool) → (stopsLeft E x s p && stopsRight E x e p) ≡ b → Found x s e (elim b [ true ↦ some p | false ↦ none ])
       go true z =
@@ -198,22 +198,22 @@ module _ {A : Type 0} (E : DecidedEquality A) (x : List A) where
             inside = l;
             period = period;
             smallest = smaller;
-            no-left = stopsLeft-right s p .0 (both .0);
-            no-right = stopsRight-right e p (omega arith) .0 (both .1);
+            no-left = stopsLeft-holds s p .0 (both .0);
+            no-right = stopsRight-holds e p (omega arith) .0 (both .1);
           }
       go false z = λ q r.
           let same : q ≡ p = smallest-unique (HasPeriod x s e) q p (r .positive) (f .0) (r .period) period (r .smallest) smaller in
           let run : Run x s e p = rw same at r in
-          subst T z (stops .1 (stopsLeft-right s p .1 (run .no-left), stopsRight-right e p (omega arith) .1 (run .no-right)))
+          subst T z (stops .1 (stopsLeft-holds s p .1 (run .no-left), stopsRight-holds e p (omega arith) .1 (run .no-right)))
 
-  pub periodOf-right : (s e : ℕ) → e ≤ length x → Found x s e (periodOf E x s e)
-  periodOf-right s e l =
+  pub periodOf-holds : (s e : ℕ) → e ≤ length x → Found x s e (periodOf E x s e)
+  periodOf-holds s e l =
       let d : ℕ = (e - s) / 2 in
-      periodKept-right s e l (firstFrom (hasPeriod E x s e) 1 d) (firstFrom-right (hasPeriod E x s e) 1 d)
+      periodKept-right s e l (firstFrom (hasPeriod E x s e) 1 d) (firstFrom-holds (hasPeriod E x s e) 1 d)
 
   -- A run is found.
   pub periodOf-run : (s e p : ℕ) → Run x s e p → periodOf E x s e ≡ some p
-  periodOf-run s e p r = go (periodOf E x s e) (periodOf-right s e (r .inside))
+  periodOf-run s e p r = go (periodOf E x s e) (periodOf-holds s e (r .inside))
     where
       go : (o : Option ℕ) → Found x s e o → o ≡ some p
       go none n = absurd (n p r)
@@ -305,7 +305,7 @@ module _ {A : Type 0} (E : DecidedEquality A) (x : List A) where
   runsOf-sound r m =
       let w : FromPart (runsFrom E x) 0 (length x) r = listFrom-part (runsFrom E x) 0 (length x) r m in
       let v : Searched r = runsFrom-member (w .place) r (w .member) .1 in
-      subst (Found x (r .start) (suc (r .last))) (v .found) (periodOf-right E x (r .start) (suc (r .last)) (v .inside))
+      subst (Found x (r .start) (suc (r .last))) (v .found) (periodOf-holds E x (r .start) (suc (r .last)) (v .inside))
 
   pub runsOf-complete : (r : Entry) → IsRun x r → List·Memᴰ r (runsOf E x)
   runsOf-complete r h =
@@ -339,5 +339,5 @@ module _ {A : Type 0} (E : DecidedEquality A) (x : List A) where
   runsOf-sorted = listFrom-sorted (runsFrom E x) runsFrom-sorted runsFrom-earlier 0 (length x)
 
   -- runsOf computes the run list.
-  pub runsOf-right : IsRunList x (runsOf E x)
-  runsOf-right = record { sound = runsOf-sound; complete = runsOf-complete; sorted = runsOf-sorted }
+  pub runsOf-holds : IsRunList x (runsOf E x)
+  runsOf-holds = record { sound = runsOf-sound; complete = runsOf-complete; sorted = runsOf-sorted }

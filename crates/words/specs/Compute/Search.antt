@@ -45,9 +45,9 @@ passes-differs : (p : ℕ → Bool) (i k : ℕ) → T (p i) → p k ≡ false �
 passes-differs p i k t e q = subst T e (subst (λ (m : ℕ). T (p m)) q t)
 
 -- Where some number below n passes, the greatest is found.
-pub greatestBelow-right : (p : ℕ → Bool) (n j : ℕ) → j < n → T (p j) → GreatestBelow p n (greatestBelow p n)
-greatestBelow-right p zero j h t = absurd (omega arith)
-greatestBelow-right p (suc k) j h t = go (p k) refl (greatestBelow-right p k j)
+pub greatestBelow-holds : (p : ℕ → Bool) (n j : ℕ) → j < n → T (p j) → GreatestBelow p n (greatestBelow p n)
+greatestBelow-holds p zero j h t = absurd (omega arith)
+greatestBelow-holds p (suc k) j h t = go (p k) refl (greatestBelow-holds p k j)
   where
     go : (b : Bool) → p k ≡ b → (j < k → T (p j) → GreatestBelow p k (greatestBelow p k))
         → GreatestBelow p (suc k) (elim b [ true ↦ k | false ↦ greatestBelow p k ])
@@ -62,11 +62,11 @@ greatestBelow-right p (suc k) j h t = go (p k) refl (greatestBelow-right p k j)
         }
 
 -- Where some number from i up to i + d passes, the least is found.
-pub leastFrom-right : (p : ℕ → Bool) (i d j : ℕ) → i ≤ j → j ≤ i + d → T (p j) → LeastFrom p i (leastFrom p i d)
-leastFrom-right p i zero j h k t =
+pub leastFrom-holds : (p : ℕ → Bool) (i d j : ℕ) → i ≤ j → j ≤ i + d → T (p j) → LeastFrom p i (leastFrom p i d)
+leastFrom-holds p i zero j h k t =
     let e : j ≡ i = omega arith in
     record { reached = omega arith; passes = rw e at t; least = λ m a c. absurd (omega arith) }
-leastFrom-right p i (suc d) j h k t = go (p i) refl (leastFrom-right p (suc i) d j)
+leastFrom-holds p i (suc d) j h k t = go (p i) refl (leastFrom-holds p (suc i) d j)
   where
     go : (b : Bool) → p i ≡ b
         → (suc i ≤ j → j ≤ suc i + d → T (p j) → LeastFrom p (suc i) (leastFrom p (suc i) d))

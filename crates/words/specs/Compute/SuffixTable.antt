@@ -11,7 +11,7 @@ use Rattle.words.specs.SuffixTable.{LongestTo, IsSuffixTable}
 use Rattle.words.specs.Tabulate.{tabulate}
 use Rattle.words.specs.Laws.Tabulate.{length-tabulate, getD-tabulate}
 use Rattle.words.specs.Compute.Lyndon.{lyndonb, lyndonb-lyndon, lyndon-lyndonb, letter-passes}
-use Rattle.words.specs.Compute.Search.{leastFrom, LeastFrom, leastFrom-right, least-at-most}
+use Rattle.words.specs.Compute.Search.{leastFrom, LeastFrom, leastFrom-holds, least-at-most}
 
 -- Where the longest Lyndon word of x that ends at j starts.
 abbrev pub startOfLongest : {A : Type 0} {O : Letters A} → Decided O → List A → ℕ → ℕ
@@ -27,11 +27,11 @@ suffixTableOf D x = tabulate (longestTo D x) 0 (length x)
 
 module _ {A : Type 0} {O : Letters A} (D : Decided O) (x : List A) where
   -- The computed length is that of the longest Lyndon word to j.
-  pub longestTo-right : (j : ℕ) → j < length x → LongestTo O x j (longestTo D x j)
-  longestTo-right j h =
+  pub longestTo-holds : (j : ℕ) → j < length x → LongestTo O x j (longestTo D x j)
+  longestTo-holds j h =
       let s = startOfLongest D x j in
       let g : LeastFrom (λ k. lyndonb D (span k (suc j) x)) 0 s =
-      leastFrom-right (λ k. lyndonb D (span k (suc j) x)) 0 j j (omega arith) (omega arith) (letter-passes D x j h) in
+      leastFrom-holds (λ k. lyndonb D (span k (suc j) x)) 0 j j (omega arith) (omega arith) (letter-passes D x j h) in
       record {
         start = s;
         ends = omega (arith, least-at-most g j (omega arith) (letter-passes D x j h));
@@ -40,12 +40,12 @@ module _ {A : Type 0} {O : Letters A} (D : Decided O) (x : List A) where
       }
 
   -- The computed table is the Lyndon suffix table.
-  pub suffixTableOf-right : IsSuffixTable O x (suffixTableOf D x)
-  suffixTableOf-right =
+  pub suffixTableOf-holds : IsSuffixTable O x (suffixTableOf D x)
+  suffixTableOf-holds =
       record {
         size = length-tabulate (longestTo D x) 0 (length x);
         entry = entry;
       }
     where
       entry : (j : ℕ) → j < length x → LongestTo O x j (getD (suffixTableOf D x) j 0)
-      entry j h = rw (getD-tabulate (longestTo D x) 0 (length x) j h, zero-add) (longestTo-right j h)
+      entry j h = rw (getD-tabulate (longestTo D x) 0 (length x) j h, zero-add) (longestTo-holds j h)

@@ -9,7 +9,7 @@ use native.Mathlib.Decide.{decLt}
 use lib.ListN.{length, getD}
 use lib.Dec.{ltb, eqb}
 use borrow.Author.Tests.{ltb-true, ltb-false, eqb-true, eqb-false}
-use Rattle.words.specs.ValidArray.{InRange, Crosses, Valid, Fault, zero-entry, long-entry, crossing, FirstBadEntry, FirstFault}
+use Rattle.words.specs.ValidArray.{InRange, Crosses, Valid, Fault, zero-entry, long-entry, crossing, EarlierInRange, FirstFault}
 
 -- What the check says of an array: that it is valid, or its first fault and the position of that.
 pub data Verdict : Type 0 where
@@ -114,7 +114,7 @@ checkEntries-right a i zero e good =
 checkEntries-right a i (suc d) e good =
     go (eqb (getD a i 0) 0) (ltb (length a) (i + getD a i 0)) refl refl (λ g. checkEntries-right a (suc i) d (omega arith) g)
   where
-    first : FirstBadEntry a i
+    first : EarlierInRange a i
     first = record { inside = omega arith; before = good }
 
     go : (z l : Bool) → eqb (getD a i 0) 0 ≡ z → ltb (length a) (i + getD a i 0) ≡ l
@@ -128,5 +128,5 @@ checkEntries-right a i (suc d) e good =
         (record { positive = omega (arith, eqb-false); fits = omega (arith, ltb-false) }))
 
 -- The verdict that is computed is the array's.
-pub checkArray-right : (a : List ℕ) → HasVerdict a (checkArray a)
-checkArray-right a = checkEntries-right a 0 (length a) (omega arith) (λ k h. omega arith)
+pub checkArray-holds : (a : List ℕ) → HasVerdict a (checkArray a)
+checkArray-holds a = checkEntries-right a 0 (length a) (omega arith) (λ k h. omega arith)

@@ -85,5 +85,5 @@ module _ {A : Type 0} {O : Letters A} (D : Decided O) where
   less-lessb u v (inr h) = rw (h .joined) (lessb-prefix u (h .rest) (h .more))
 
   -- The test decides the order of words.
-  pub lessb-right : (u v : List A) → T (lessb D u v) ↔ Less O u v
-  lessb-right u v = (lessb-less u v, less-lessb u v)
+  pub lessb-holds : (u v : List A) → T (lessb D u v) ↔ Less O u v
+  lessb-holds u v = (lessb-less u v, less-lessb u v)

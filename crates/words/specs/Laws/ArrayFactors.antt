@@ -18,7 +18,7 @@ use Rattle.words.specs.ValidArray.{Valid}
 use Rattle.words.specs.ArrayForest.{endOf}
 use Rattle.words.specs.Compute.Factorization.{startsFrom}
 use Rattle.words.specs.Laws.SpanLyndon.{letters, length-span, span-split}
-use Rattle.words.specs.Laws.Decided.{all-compared-irrefutable}
+use Rattle.words.specs.Laws.Compared.{all-compared-irrefutable}
 use Rattle.words.specs.Laws.ArrayNext.{LeadsToNext, array-next}
 use Rattle.words.specs.Laws.FactorChain.{LinkedSpans, linked-never-rising}
 use Rattle.words.specs.Laws.ValidSpans.{end-after, end-inside}

@@ -19,7 +19,7 @@ use Rattle.words.specs.CutTree.{CutTree, letter, cut, Recorded, Tree}
 use Rattle.words.specs.RightForest.{RightCut, IsRightForest}
 use Rattle.words.specs.ValidArray.{Valid}
 use Rattle.words.specs.ArrayForest.{endOf, firstFor, pastFor, forestFirst, forestPast}
-use Rattle.words.specs.Compute.Search.{leastFrom, LeastFrom, leastFrom-right, least-at-most}
+use Rattle.words.specs.Compute.Search.{leastFrom, LeastFrom, leastFrom-holds, least-at-most}
 use Rattle.words.specs.Laws.Tabulate.{length-tabulate, getD-tabulate}
 use Rattle.words.specs.Laws.ValidSpans.{Unheld, innermost-is, unheld-is, own-unheld, past-of-start, past-of-inner, end-after, end-inside, ends-nest, end-unheld}
 use Rattle.words.specs.Laws.ArrayValid.{array-valid}
@@ -60,7 +60,7 @@ module _ (a : List ℕ) (v : Valid a) where
       let q : endOf a l ≡ suc l = omega (arith, w .within l (omega arith) (omega arith), end-after a v l (w .inside)) in
       let t : T (p l) = subst (λ (m : ℕ). T (eqb m (suc l))) (sym q) (eqb-refl (suc l)) in
       let c : ℕ = leastFrom p (suc s) (suc l - suc s) in
-      let g : LeastFrom p (suc s) c = leastFrom-right p (suc s) (suc l - suc s) l (omega arith) (omega arith) t in (
+      let g : LeastFrom p (suc s) c = leastFrom-holds p (suc s) (suc l - suc s) l (omega arith) (omega arith) t in (
         c,
         record {
           after = g .reached;

@@ -12,7 +12,7 @@ use Rattle.words.specs.Laws.Position.{SpanLyndon}
 use Rattle.words.specs.Laws.SpanLyndon.{letters, lyndon-span, span-lyndon}
 use Rattle.words.specs.Laws.SuffixOrder.{NextSmaller}
 use Rattle.words.specs.Laws.NextSmaller.{next-lyndon, lyndon-before-next}
-use Rattle.words.specs.Laws.Decided.{AllCompared, longest-next}
+use Rattle.words.specs.Laws.Compared.{AllCompared, longest-next}
 
 module _ {A : Type 0} (O : Letters A) (z : A) (x : List A) where
   -- Every entry of a leads to the next smaller suffix.

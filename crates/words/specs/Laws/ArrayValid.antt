@@ -9,7 +9,7 @@ use Rattle.words.specs.LyndonArray.{LongestFrom, IsLyndonArray}
 use Rattle.words.specs.ValidArray.{InRange, Crosses, Valid}
 use Rattle.words.specs.Laws.SpanLyndon.{letters, lyndon-span}
 use Rattle.words.specs.Laws.NextSmaller.{next-nests}
-use Rattle.words.specs.Laws.Decided.{AllCompared, all-compared-irrefutable}
+use Rattle.words.specs.Laws.Compared.{AllCompared, all-compared-irrefutable}
 use Rattle.words.specs.Laws.ArrayNext.{array-next}
 
 module _ {A : Type 0} (O : Letters A) (z : A) (x : List A) (a : List ℕ) (h : IsLyndonArray O x a) where

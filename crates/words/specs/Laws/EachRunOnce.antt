@@ -11,7 +11,7 @@ use lib.ListN.{length, length-append}
 use Rattle.words.specs.Letters.{Letters, reversed}
 use Rattle.words.specs.Runs.{Run, Entry, Earlier, Sorted, IsRun, IsRunList}
 use Rattle.words.specs.Laws.SpanLyndon.{letters}
-use Rattle.words.specs.Laws.Decided.{AllCompared}
+use Rattle.words.specs.Laws.Compared.{AllCompared}
 use Rattle.words.specs.Laws.Runs.{run-period-unique}
 use Rattle.words.specs.Laws.Different.{Different, different-append, different-snoc, different-rearranged}
 use Rattle.words.specs.Laws.RunListing.{listed-once, listed-one-order}

@@ -16,7 +16,7 @@ use Rattle.words.specs.Laws.Position.{SpanLyndon, SpanLess}
 use Rattle.words.specs.Laws.SpanLyndon.{letters, length-span, less-span, span-less, span-split, lyndon-span, span-lyndon}
 use Rattle.words.specs.Laws.SuffixOrder.{SuffixLess, NextSmaller, suffix-asym}
 use Rattle.words.specs.Laws.NextSmaller.{empty-suffix-less, next-lyndon, next-unique, lyndon-next, less-suffix, suffix-less}
-use Rattle.words.specs.Laws.Decided.{AllCompared, all-compared-irrefutable, suffix-compare, numbers-stable}
+use Rattle.words.specs.Laws.Compared.{AllCompared, all-compared-irrefutable, suffix-compare, numbers-stable}
 
 -- s holds i, the next smaller suffix after it, the next after that, and so on up to n.
 abbrev pub Chain : {A : Type 0} → Letters A → (ℕ → A) → ℕ → ℕ → List ℕ → Type 0

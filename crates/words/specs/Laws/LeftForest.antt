@@ -10,8 +10,8 @@ use lib.ListN.{length, getD}
 use Rattle.words.specs.Letters.{Letters, Decided}
 use Rattle.words.specs.CutTree.{CutTree, letter, cut, Recorded, Tree}
 use Rattle.words.specs.LeftForest.{LeftCut, IsLeftForest}
-use Rattle.words.specs.Compute.Factorization.{factorizationOf, factorizationOf-right, decided-compared}
-use Rattle.words.specs.Compute.Forest.{leftCutAt, leftCutAt-right}
+use Rattle.words.specs.Compute.Factorization.{factorizationOf, factorizationOf-holds, decided-compared}
+use Rattle.words.specs.Compute.Forest.{leftCutAt, leftCutAt-holds}
 use Rattle.words.specs.Laws.Position.{SpanLyndon}
 use Rattle.words.specs.Laws.SpanLyndon.{letters, lyndon-span, span-lyndon}
 use Rattle.words.specs.Laws.NextSmaller.{next-lyndon}
@@ -150,7 +150,7 @@ module _ {A : Type 0} {O : Letters A} (D : Decided O) (z : A) (x : List A) (star
       go (no l) rest =
           let e : b ≡ suc a = omega (arith, l, w .order) in
           (letter e, tt)
-      go (yes l) rest = at (leftCutAt D x a b) (leftCutAt-right D x .right a b l (w .inside))
+      go (yes l) rest = at (leftCutAt D x a b) (leftCutAt-holds D x .right a b l (w .inside))
         where
           at : (c : ℕ) → LeftCut O x a c b → (t : CutTree (LeftCut O x) a b) × Recorded first past t
           at zero k = absurd (omega (arith, k .non-empty))
@@ -195,10 +195,10 @@ module _ {A : Type 0} {O : Letters A} (D : Decided O) (z : A) (x : List A) (star
         first-size = p;
         past-size = q;
         factor-starts = factorizationOf D x;
-        factorization = factorizationOf-right D x;
+        factorization = factorizationOf-holds D x;
         factor =
             λ k l.
             factor-tree (getD (factorizationOf D x) k 0) (getD (factorizationOf D x) (suc k) (length x))
             (chain-factor O (letters z x) (length x) 0 (factorizationOf D x) (lowest-first O (letters z x) (length x))
-            (factorization-chain O z x (decided-compared D (letters z x) (length x)) (factorizationOf D x) (factorizationOf-right D x)) k l);
+            (factorization-chain O z x (decided-compared D (letters z x) (length x)) (factorizationOf D x) (factorizationOf-holds D x)) k l);
       }

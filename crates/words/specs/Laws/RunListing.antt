@@ -9,7 +9,7 @@ use Rattle.words.specs.Letters.{Letters, Smaller, reversed, Comparison, 
 use Rattle.words.specs.Laws.Position.{Agree, BelowWithin}
 use Rattle.words.specs.Laws.SuffixOrder.{SuffixLess, ends, parts, NextSmaller, suffix-cancel, agree-sym}
 use Rattle.words.specs.Laws.NextSmaller.{next-lyndon, next-unique, next-nests, lyndon-next}
-use Rattle.words.specs.Laws.Decided.{AllCompared}
+use Rattle.words.specs.Laws.Compared.{AllCompared}
 use Rattle.words.specs.Laws.Periods.{SpanPeriod, SpanRun}
 use Rattle.words.specs.Laws.RunRoots.{lyndon-carried, LastRoot, last-root}
 

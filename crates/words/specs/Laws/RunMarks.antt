@@ -11,7 +11,7 @@ use Rattle.words.specs.Letters.{Letters, reversed}
 use Rattle.words.specs.Runs.{Entry, IsRun}
 use Rattle.words.specs.Laws.SpanLyndon.{letters}
 use Rattle.words.specs.Laws.SuffixOrder.{NextSmaller}
-use Rattle.words.specs.Laws.Decided.{AllCompared, all-compared-irrefutable}
+use Rattle.words.specs.Laws.Compared.{AllCompared, all-compared-irrefutable}
 use Rattle.words.specs.Laws.Different.{Different, marked-fewer}
 use Rattle.words.specs.Laws.Periods.{run-span, span-run}
 use Rattle.words.specs.Laws.RunListing.{Extent, ListedAt, measure-unique, listed-run, listed-unique, listed-after-start, listed-one-each, run-listed}

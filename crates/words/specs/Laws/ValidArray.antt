@@ -5,8 +5,8 @@ use mathlib.Core.List.{List}
 use Prim.Native.Nat.{ℕ, _<_}
 use native.Mathlib.Omega.{arith}
 use native.Mathlib.Decide.{decLt}
-use Rattle.words.specs.ValidArray.{InRange, Crosses, Valid, Fault, zero-entry, long-entry, crossing, FirstBadEntry, FirstFault}
-use Rattle.words.specs.Compute.ValidArray.{Verdict, fits, fault, HasVerdict, checkArray, checkArray-right}
+use Rattle.words.specs.ValidArray.{InRange, Crosses, Valid, Fault, zero-entry, long-entry, crossing, EarlierInRange, FirstFault}
+use Rattle.words.specs.Compute.ValidArray.{Verdict, fits, fault, HasVerdict, checkArray, checkArray-holds}
 
 -- There is one least position at which P holds.
 least-unique : (P : ℕ → Type 0) {i j : ℕ} → P i → ((k : ℕ) → k < i → ¬ P k) → P j → ((k : ℕ) → k < j → ¬ P k) → i ≡ j
@@ -26,7 +26,7 @@ module _ (a : List ℕ) where
   long-not-in-range b r = omega arith
 
   -- There is one first entry that is 0 or too long.
-  bad-entry-unique : {i j : ℕ} → FirstBadEntry a i → ¬ InRange a i → FirstBadEntry a j → ¬ InRange a j → i ≡ j
+  bad-entry-unique : {i j : ℕ} → EarlierInRange a i → ¬ InRange a i → EarlierInRange a j → ¬ InRange a j → i ≡ j
   bad-entry-unique b n c m =
       least-unique (λ k. ¬ InRange a k) n (λ k h w. w (b .before k h)) m (λ k h w. w (c .before k h))
 
@@ -67,4 +67,4 @@ module _ (a : List ℕ) where
 
   -- The verdict that an array has is the one that is computed.
   pub checkArray-computes : (v : Verdict) → HasVerdict a v → checkArray a ≡ v
-  checkArray-computes v p = verdict-unique (checkArray a) v (checkArray-right a) p
+  checkArray-computes v p = verdict-unique (checkArray a) v (checkArray-holds a) p
