@@ -6,7 +6,7 @@ pub mod text;
 ghost use mathlib.Core.Path.{_≡_};
 ghost use Prim.Native.Nat.{_+_, _*_, _≤_, _<_};
 ghost use lib.ListN.{length};
-ghost use Rattle.answer.specs.Limits.{maxLetters, runListLength};
+ghost use Rattle.answer.specs.Limits.{maxLetters, runListLength, workLength};
 ghost use Rattle.fasta.specs.Name.{maxName, recordName};
 ghost use Rattle.fasta.specs.Reader.{lettersOf};
 ghost use Rattle.listing.specs.Bed.{bedLines, entriesOf};
@@ -17,6 +17,10 @@ use crate::bed::write_lines;
 use crate::text::write_byte;
 use crate::text::write_bytes;
 use crate::text::write_decimal;
+use answer::Outcome;
+use answer::number;
+use answer::value;
+use array::runs::runs;
 use fasta::bytes::LINE_END;
 use fasta::name::name_end;
 
@@ -73,4 +77,61 @@ fn write_accepted(input: &[u8], runs: &[u32], count: usize, out: &mut [u8]) -> u
     ensures { λ r. ⌜ Written (now (out .entry)) (now (out .exit)) 0 r (listingOf (now (input .entry))) ⌝ }
 {
     write_record(input, 0, runs, count, out, 0)
+}
+
+// Writes what is printed for an accepted input of `count` letters.
+fn list_accepted(
+    input: &[u8],
+    letters: &[u8],
+    work: &mut [u32],
+    list: &mut [u32],
+    out: &mut [u8],
+) -> usize
+    requires { ⌜ ReaderAccepts (now input) ⌝ }
+    requires { ⌜ now letters ≡ lettersOf (now input) ⌝ }
+    requires { ⌜ workLength maxLetters ≤ length (now work) ⌝ }
+    requires { ⌜ length (now list) ≡ runListLength maxLetters ⌝ }
+    requires { ⌜ maxListing ≤ length (now out) ⌝ }
+    ensures { λ r. ⌜ Written (now (out .entry)) (now (out .exit)) 0 r (listingOf (now (input .entry))) ⌝ }
+{
+    let answer = runs(letters, work, list);
+    let count = value(answer) as usize;
+    write_accepted(input, list, count, out)
+}
+
+// Writes all that is printed for the input.
+fn list_repeats(
+    input: &[u8],
+    letters: &mut [u8],
+    work: &mut [u32],
+    list: &mut [u32],
+    out: &mut [u8],
+) -> usize
+    requires { ⌜ length (now letters) ≡ maxLetters ⌝ }
+    requires { ⌜ workLength maxLetters ≤ length (now work) ⌝ }
+    requires { ⌜ length (now list) ≡ runListLength maxLetters ⌝ }
+    requires { ⌜ maxListing ≤ length (now out) ⌝ }
+    ensures { λ r. ⌜ Written (now (out .entry)) (now (out .exit)) 0 r (listingOf (now (input .entry))) ⌝ }
+{
+    let answer = fasta::read(input, letters);
+    let outcome = answer.outcome;
+    let Outcome::Accepted { count } = outcome else {
+        return write_refusal(number(answer), value(answer), out);
+    };
+    let n = count as usize;
+    let found = &letters[..n];
+    list_accepted(input, found, work, list, out)
+}
+
+// Writes all that is printed for the input at the start of `out`, and returns how long it is.
+pub fn list(
+    input: &[u8],
+    letters: &mut [u8; 2048],
+    work: &mut [u32; 4096],
+    list: &mut [u32; 12288],
+    out: &mut [u8; 389120],
+) -> usize
+    ensures { λ r. ⌜ Written (now (out .entry)) (now (out .exit)) 0 r (listingOf (now (input .entry))) ⌝ }
+{
+    list_repeats(input, letters, work, list, out)
 }
