@@ -117,7 +117,9 @@ fn list_repeats(
     let answer = fasta::read(input, letters);
     let outcome = answer.outcome;
     let Outcome::Accepted { count } = outcome else {
-        return write_refusal(number(answer), value(answer), out);
+        let reason = number(answer);
+        let position = value(answer);
+        return write_refusal(reason, position, out);
     };
     let n = count as usize;
     let found = &letters[..n];

@@ -56,6 +56,10 @@ pub written-first : {b a : List ℕ} {n : ℕ} {l : List ℕ} → Written b a 0 
 written-first {b = b} {l = l} w h =
     record { counted = omega (arith, w .past); content = w .content ∙ stored-first b l (omega (arith, w .past)) }
 
+-- What is printed, by an equal list.
+pub printed-as : {b a : List ℕ} {n : ℕ} {l k : List ℕ} → Printed b a n l → l ≡ k → Printed b a n k
+printed-as p e = rw e at p
+
 -- It has its place there.
 pub printed-within : {b a : List ℕ} {n : ℕ} {l : List ℕ} → Printed b a n l → n ≤ length a
 printed-within {b = b} {l = l} p = omega (arith, p .counted, ap length (p .content), length-append l (drop (length l) b))
