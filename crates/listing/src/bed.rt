@@ -55,6 +55,7 @@ pub(crate) fn write_lines(
     requires { ⌜ 3 * count ≤ length (now runs) ⌝ }
     requires { ⌜ at + maxLine * count ≤ length (now out) ⌝ }
     ensures { λ r. ⌜ Written (now (out .entry)) (now (out .exit)) at r (bedLines (now (name .entry)) (entriesOf count (now (runs .entry)))) ⌝ }
+    ensures { λ r. ⌜ r ≤ length (now (out .entry)) ⌝ }
 {
     let mut from = 0;
     let mut left = count;

@@ -45,7 +45,9 @@ same-length : tie.Need-same-length
 same-length c = search needs
 
 returns : tie.Need-returns
-returns c = rw (named (c .before .before .before .before .before)) at (c .before .before .write-lines .ensures)
+returns c =
+    let lines = c .before .before .write-lines .ensures in
+    (rw (named (c .before .before .before .before .before)) at (lines .0), lines .1)
 
 pub write-record-spec : {M : Type 1} → statement M
 write-record-spec =

@@ -5,7 +5,7 @@ use native.Mathlib.Omega.{arith}
 use lib.ListN.{length}
 use Rattle.listing.specs.Decimal.{decimalOf}
 use Rattle.listing.specs.Laws.Decimal.{decimal-length}
-use Rattle.listing.specs.Laws.Written.{written-append}
+use Rattle.listing.specs.Laws.Written.{written-append, written-first}
 use borrow.Author.Needs.{needs}
 use Rattle.listing.proofs.write_refusal.Statement.{statement}
 use Rattle.listing.proofs.write_refusal.Tie as tie
@@ -95,10 +95,24 @@ returns c =
     let at = position .before .before .before .before in
     let number = at .before .before .before .before .before in
     let word = number .before .before .before .before in
+    let start = word .before .before .before .before in
+    let line =
     written-append (word .write-bytes .ensures)
     (written-append (number .write-decimal .ensures)
     (written-append (at .write-bytes2 .ensures)
-    (written-append (position .write-decimal2 .ensures) (byte .write-byte .ensures))))
+    (written-append (position .write-decimal2 .ensures) (byte .write-byte .ensures)))) in
+    written-first line
+    (omega (
+      arith,
+      start .pre,
+      digits start .0,
+      digits start .1,
+      word .write-bytes .ensures .past,
+      number .write-decimal .ensures .past,
+      at .write-bytes2 .ensures .past,
+      position .write-decimal2 .ensures .past,
+      byte .write-byte .ensures .past,
+    ))
 
 pub write-refusal-spec : {M : Type 1} → statement M
 write-refusal-spec =

@@ -2,11 +2,12 @@
 -- Assumes nothing.
 use mathlib.Core.Path.{_≡_, refl, sym, ap, _∙_}
 use mathlib.Core.List.{List, [], _∷_, _++_}
-use Prim.Native.Nat.{ℕ, _*_, _≤_, _<_}
+use Prim.Native.Nat.{ℕ, suc, _*_, _≤_, _<_}
 use native.Mathlib.Omega.{arith}
+use native.Mathlib.Decide.{decLt}
 use borrow.Author.Tests.{lt-ltb}
-use lib.ListN.{length, drop, take-append-drop, length-take}
-use lib.Seq.{take-at}
+use lib.ListN.{length, take, drop, take-append-drop, length-take}
+use lib.Seq.{take-at, take-all}
 use Rattle.words.specs.Equality.{decided-number-equality}
 use Rattle.words.specs.Runs.{Entry, numbers}
 use Rattle.words.specs.Compute.Runs.{runsOf}
@@ -70,3 +71,11 @@ listing-refused x reason position e = ap (λ (o : Outcome). listingFor o x) e
 -- An input over the limit is refused for its size, whatever it holds.
 pub listing-long : (x : List ℕ) → maxInput < length x → listingOf x ≡ refusalLine (numberOf FileTooLong) maxInput
 listing-long x h = listing-refused x FileTooLong maxInput (rw (lt-ltb maxInput (length x) h))
+
+-- One byte over the limit is enough to be read: whatever follows changes nothing.
+pub listing-first : (x : List ℕ) → listingOf (take (suc maxInput) x) ≡ listingOf x
+listing-first x = go (decLt maxInput (length x))
+  where
+    go : Dec (maxInput < length x) → listingOf (take (suc maxInput) x) ≡ listingOf x
+    go (yes l) = listing-long (take (suc maxInput) x) (omega (arith, length-take (suc maxInput) x)) ∙ sym (listing-long x l)
+    go (no l) = ap listingOf (take-all (suc maxInput) x (omega arith))

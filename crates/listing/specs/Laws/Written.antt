@@ -1,14 +1,14 @@
 -- Writing one list behind another.
 -- Assumes nothing.
-use mathlib.Core.Path.{_≡_, refl, sym, _∙_}
+use mathlib.Core.Path.{_≡_, refl, sym, ap, _∙_}
 use mathlib.Core.List.{List, [], _∷_, _++_}
 use Prim.Native.Nat.{ℕ, _+_, _≤_, _<_}
 use native.Mathlib.Omega.{arith}
 use native.Mathlib.Numerals.{add-one}
-use lib.ListN.{length, getD, take, drop, set, length-append}
-use lib.Seq.{sets, drop-cons, take-at}
+use lib.ListN.{length, getD, drop, set, length-append}
+use lib.Seq.{sets, drop-cons}
 use Rattle.fasta.specs.Laws.Stores.{sets-append, stored-first}
-use Rattle.listing.specs.Written.{Written, Pending}
+use Rattle.listing.specs.Written.{Written, Printed, Pending}
 
 -- Nothing is written.
 pub written-none : (b : List ℕ) (at : ℕ) → Written b b at at []
@@ -52,5 +52,14 @@ pub pending-none : {b b₀ : List ℕ} {at at₀ : ℕ} {l₀ : List ℕ} → Pe
 pending-none p = record { past = omega (arith, p .past); content = p .content }
 
 -- What was written from the start on is what the buffer begins with.
-pub written-first : {b a : List ℕ} {n : ℕ} {l : List ℕ} → Written b a 0 n l → length l ≤ length b → take n a ≡ l
-written-first {b = b} {n = n} {l = l} w h = rw (w .content, stored-first b l h) (take-at l (drop (length l) b) n (omega (arith, w .past)))
+pub written-first : {b a : List ℕ} {n : ℕ} {l : List ℕ} → Written b a 0 n l → n ≤ length b → Printed b a n l
+written-first {b = b} {l = l} w h =
+    record { counted = omega (arith, w .past); content = w .content ∙ stored-first b l (omega (arith, w .past)) }
+
+-- What is printed, by an equal list.
+pub printed-as : {b a : List ℕ} {n : ℕ} {l k : List ℕ} → Printed b a n l → l ≡ k → Printed b a n k
+printed-as p e = rw e at p
+
+-- It has its place there.
+pub printed-within : {b a : List ℕ} {n : ℕ} {l : List ℕ} → Printed b a n l → n ≤ length a
+printed-within {b = b} {l = l} p = omega (arith, p .counted, ap length (p .content), length-append l (drop (length l) b))

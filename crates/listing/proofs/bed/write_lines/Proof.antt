@@ -95,8 +95,10 @@ same-length c = search needs
 returns : tie.Need-returns Inv-loop μ-loop
 returns c =
     let loop = c .before .loop in
-    let args = c .before .before .before .before .before .args in
-    pending-none (rw (lines-none (args .name .now) (loop .left) (drop (loop .from) (args .runs .now)) (c .loop-test .left)) at (loop .inv .3))
+    let args = c .before .before .before .before .before .args in (
+      pending-none (rw (lines-none (args .name .now) (loop .left) (drop (loop .from) (args .runs .now)) (c .loop-test .left)) at (loop .inv .3)),
+      omega (arith, loop .inv .1, loop .inv .2),
+    )
 
 pub write-lines-spec : {M : Type 1} → statement M
 write-lines-spec =
