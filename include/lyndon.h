@@ -23,6 +23,17 @@ extern "C" {
  *   3  the order number is neither 0 nor 1
  *   4  an output buffer is shorter than needed
  *   5  the work buffer is shorter than 2 n
+ *   6  an array's entry is 0; the position is the first entry that is bad by 6 or 7
+ *   7  an array's entry i is greater than n - i; the position likewise
+ *   8  the span of entry j, from j to j + array[j] - 1, crosses the end of an earlier entry's span; the position is the first such j
+ *   9  a FASTA input does not begin with '>'; the position is 0
+ *  10  its name is empty, has a 61st byte, or a byte outside 33 to 126 that does not end it; the position is that byte's, or 1
+ *  11  a sequence line has a byte that is no letter, or '>' inside it; the position is that byte's
+ *  12  a second record begins; the position is that of its '>'
+ *  13  there is no letter; the position is the input's length
+ *  14  there is a 2,049th letter; the position is that letter's in the input
+ *  15  the input is longer than 8,192 bytes; the position is 8192
+ * Checks are made in the order 1 to 5, then 6 and 7 in one pass, then 8; for FASTA 4, 15, 9, 10, then 11, 12 and 14 in one pass, 13.
  */
 typedef struct {
     uint32_t number;
@@ -43,6 +54,35 @@ lyndon_answer lyndon_array_u32(const uint32_t *text, size_t n, uint32_t order, u
  * position; the count is the number of runs. The list needs 6 n places, the work buffer 2 n; afterwards work holds the rising Lyndon
  * array and then the falling one. Refusals 1, 2, 4 (list), 5. */
 lyndon_answer lyndon_runs(const uint8_t *text, size_t n, uint32_t *work, size_t work_len, uint32_t *list, size_t list_len);
+
+/* The Lyndon factorization, rising: out holds the starts of the factors, the unique Lyndon words u0 >= u1 >= .. whose row is the text.
+ * Needs n places; the count is the number of factors, and only so many places are written. Refusals 1, 2, 4. */
+lyndon_answer lyndon_factorization(const uint8_t *text, size_t n, uint32_t *out, size_t out_len);
+
+/* The Lyndon suffix table, rising: out[j] is the length of the longest Lyndon word that ends at j. Needs n places; the count is n.
+ * Refusals 1, 2, 4. */
+lyndon_answer lyndon_suffix_table(const uint8_t *text, size_t n, uint32_t *out, size_t out_len);
+
+/* A Lyndon forest cuts every factor of two letters or more as u v, and u and v likewise. For a position j that starts a factor both
+ * buffers hold j. Before any other j falls exactly one cut: first[j] is the start of u, past[j] one past the last position of v.
+ * Each buffer needs n places; the count is n. Refusals 1, 2, 4 (either buffer), and of the right forest 6, 7, 8. */
+
+/* The left forest, rising: u is the longest proper Lyndon prefix. */
+lyndon_answer lyndon_left_forest(const uint8_t *text, size_t n, uint32_t *first, size_t first_len, uint32_t *past, size_t past_len);
+
+/* The right forest, of an array alone: v is the longest proper Lyndon suffix. It is the forest of every text that has this Lyndon array. */
+lyndon_answer lyndon_right_forest(const uint32_t *array, size_t n, uint32_t *first, size_t first_len, uint32_t *past, size_t past_len);
+
+/* A text of 32-bit letters, each of 0 to n - 1 once, whose rising Lyndon array is the given one: text[i] is the number of earlier entries
+ * whose span holds i, plus n - i - array[i]. Refusals 6, 7 and 8 are given exactly where no text has the array. Needs n places; the
+ * count is n. Refusals 1, 2, 4, 6, 7, 8. */
+lyndon_answer lyndon_reconstruct(const uint32_t *array, size_t n, uint32_t *text, size_t text_len);
+
+/* The letters, A to Z and a to z as they are, of a FASTA input of one record: '>', a name of 1 to 60 bytes from 33 to 126 ended by space,
+ * tab, CR, LF or the end, the rest of that line, then sequence lines of letters. LF, or CR and LF, ends a line; blank lines are skipped.
+ * An input has at most 8,192 bytes, and may be empty (refusal 9). The letters buffer needs 2,048 places, whatever the input; the count
+ * is the number of letters. Refusals 4, 15, 9, 10, 11, 12, 14, 13. */
+lyndon_answer lyndon_read_fasta(const uint8_t *input, size_t len, uint8_t *letters, size_t letters_len);
 
 #ifdef __cplusplus
 }

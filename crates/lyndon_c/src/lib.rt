@@ -7,6 +7,7 @@ ghost use lib.ListN.{length};
 ghost use Rattle.lyndon_c.specs.Record.{recordOf};
 ghost use Rattle.answer.specs.Checks.{contentAfter};
 ghost use Rattle.array.specs.Calls.{arrayAnswer, runsAnswer, runNumbers, bothArrays};
+ghost use Rattle.fasta.specs.Reader.{readerAnswer, lettersOf};
 ghost use Rattle.factors.specs.Default.{decided-default};
 ghost use Rattle.factors.specs.Answers.{factorizationAnswer, suffixTableAnswer, leftForestAnswer};
 ghost use Rattle.from_array.specs.Answers.{reconstructAnswer, rightForestAnswer};
@@ -115,4 +116,13 @@ pub extern "C" fn lyndon_reconstruct(array: &[u32], text: &mut [u32]) -> LyndonA
     ensures content { λ r. ⌜ now (text .exit) ≡ contentAfter (reconstructAnswer (now (array .entry)) (length (now (text .entry)))) (textFor (now (array .entry))) (now (text .entry)) ⌝ }
 {
     exported(from_array::reconstruct(array, text))
+}
+
+// The letters of a FASTA input of one record.
+#[no_mangle]
+pub extern "C" fn lyndon_read_fasta(input: &[u8], letters: &mut [u8]) -> LyndonAnswer
+    ensures answer { λ r. ⌜ r ≡ recordOf (readerAnswer (now (input .entry)) (length (now (letters .entry)))) ⌝ }
+    ensures content { λ r. ⌜ now (letters .exit) ≡ contentAfter (readerAnswer (now (input .entry)) (length (now (letters .entry)))) (lettersOf (now (input .entry))) (now (letters .entry)) ⌝ }
+{
+    exported(fasta::read(input, letters))
 }
