@@ -19,7 +19,14 @@ mod c {
         pub fn lyndon_factorization(text: *const u8, n: usize, out: *mut u32, out_len: usize) -> Answer;
         pub fn lyndon_suffix_table(text: *const u8, n: usize, out: *mut u32, out_len: usize) -> Answer;
         pub fn lyndon_left_forest(text: *const u8, n: usize, first: *mut u32, first_len: usize, past: *mut u32, past_len: usize) -> Answer;
-        pub fn lyndon_right_forest(array: *const u32, n: usize, first: *mut u32, first_len: usize, past: *mut u32, past_len: usize) -> Answer;
+        pub fn lyndon_right_forest(
+            array: *const u32,
+            n: usize,
+            first: *mut u32,
+            first_len: usize,
+            past: *mut u32,
+            past_len: usize,
+        ) -> Answer;
         pub fn lyndon_reconstruct(array: *const u32, n: usize, text: *mut u32, text_len: usize) -> Answer;
         pub fn lyndon_runs(text: *const u8, n: usize, work: *mut u32, work_len: usize, list: *mut u32, list_len: usize) -> Answer;
         pub fn lyndon_read_fasta(input: *const u8, len: usize, letters: *mut u8, letters_len: usize) -> Answer;

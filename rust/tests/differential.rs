@@ -220,7 +220,21 @@ fn damaged(numbers: &mut Numbers, n: usize, changes: usize) -> Vec<u32> {
         let i = numbers.below(n);
         let left = (n - i) as u32;
         let any = 1 + numbers.below(n) as u32;
-        a[i] = numbers.pick(&[0, 1, 2, left, left + 1, left.saturating_sub(1), any, any, any, a[i] + 1, u32::MAX, u32::MAX - i as u32 + 1, (1 << 31)]);
+        a[i] = numbers.pick(&[
+            0,
+            1,
+            2,
+            left,
+            left + 1,
+            left.saturating_sub(1),
+            any,
+            any,
+            any,
+            a[i] + 1,
+            u32::MAX,
+            u32::MAX - i as u32 + 1,
+            (1 << 31),
+        ]);
     }
     a
 }

@@ -60,7 +60,11 @@ pub fn compare<T: Filler>(what: &str, got: Result<usize, Error>, buffers: &[&[T]
         let kept = match (wanted.is_ok(), written.get(b)) {
             (false, _) => 0,
             (true, Some(Some(front))) => {
-                assert!(buffer.len() >= front.len() && buffer[..front.len()] == **front, "buffer {b} of {what}: {:?}, expected {front:?}", &buffer[..front.len().min(buffer.len())]);
+                assert!(
+                    buffer.len() >= front.len() && buffer[..front.len()] == **front,
+                    "buffer {b} of {what}: {:?}, expected {front:?}",
+                    &buffer[..front.len().min(buffer.len())]
+                );
                 front.len()
             }
             (true, _) => continue,
