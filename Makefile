@@ -1,16 +1,25 @@
-# lib: the static library, proved and ready to link, beside include/lyndon.h. bench: the benchmark.
+# lib: the static library, proved and ready to link, beside include/lyndon.h. example: a C program that uses it.
+# bench: the benchmark. test: all tests.
 CFLAGS = -O3 -Wall -Wextra -Iinclude -Ibench
+BENCH = bench/bench.c bench/families.c bench/reference.c bench/reference_factors.c bench/reference_from_array.c bench/reference_reader.c \
+	bench/suffix_array.c
+DIVSUFSORT := $(shell echo '\#include <divsufsort.h>' | $(CC) -E - > /dev/null 2>&1 && echo -DHAVE_DIVSUFSORT -ldivsufsort)
 
-.PHONY: lib bench test clean
+.PHONY: lib example bench test clean
 
 lib:
 	rt staticlib lyndon_c
 	mkdir -p target/lib
 	cp target/staticlib/liblyndon_c.a target/lib/liblyndon.a
 
+example: lib
+	mkdir -p target/examples
+	$(CC) $(CFLAGS) -o target/examples/runs examples/runs.c target/lib/liblyndon.a
+	./target/examples/runs mississippi
+
 bench: lib
 	mkdir -p target/bench
-	$(CC) $(CFLAGS) -o target/bench/bench bench/bench.c bench/families.c bench/reference.c target/lib/liblyndon.a
+	$(CC) $(CFLAGS) -o target/bench/bench $(BENCH) target/lib/liblyndon.a $(DIVSUFSORT)
 	./target/bench/bench
 
 test:

@@ -1,16 +1,28 @@
-/* Prints a table: nanoseconds a letter for each call and family at three sizes, this library beside the same algorithm in C. */
+/* Prints tables: nanoseconds a letter for each call and family at three sizes, this library beside the same algorithm in C, and at the
+ * end the growth and the ratio of each call. What the two write is compared in full. */
 #include "families.h"
 #include "lyndon.h"
 #include "reference.h"
+#include "suffix_array.h"
 #include <stdio.h>
 #include <stdlib.h>
 #include <string.h>
 #include <time.h>
 
 #define LARGEST 1048576
+#define RUNS 5
+
 static uint8_t text[LARGEST];
-static uint32_t wide[LARGEST], out[LARGEST], want[LARGEST];
-static uint32_t work[2 * LARGEST], work2[2 * LARGEST], list[6 * LARGEST], list2[6 * LARGEST];
+static uint32_t numbers[LARGEST]; /* a text of 32-bit letters, or an array */
+static uint32_t order;
+
+/* What a call writes: two buffers, and its answer. */
+struct written {
+    lyndon_answer answer;
+    uint32_t first[2 * LARGEST];
+    uint32_t second[6 * LARGEST];
+};
+static struct written ours, theirs, by_suffixes;
 
 static double now(void) {
     struct timespec t;
@@ -18,115 +30,201 @@ static double now(void) {
     return (double)t.tv_sec * 1e9 + (double)t.tv_nsec;
 }
 
-/* The best of some runs, in nanoseconds a letter. */
-#define BEST(N, RUNS, CALL)                              \
-    ({                                                   \
-        double best = 1e30;                              \
-        for (int run = 0; run < RUNS; run++) {           \
-            double start = now();                        \
-            CALL;                                        \
-            double took = (now() - start) / (double)(N); \
-            if (took < best) best = took;                \
-        }                                                \
-        best;                                            \
-    })
+/* The best of some runs, in nanoseconds a letter. Short inputs are run many times at a look. */
+static double best(void (*call)(size_t), size_t n) {
+    size_t times = n < 10000 ? 2000 : 1;
+    double least = 1e30;
+    for (int run = 0; run < RUNS; run++) {
+        double start = now();
+        for (size_t t = 0; t < times; t++) call(n);
+        double took = (now() - start) / (double)n / (double)times;
+        if (took < least) least = took;
+    }
+    return least;
+}
 
-static void check(const char *call, const char *family, size_t n, const uint32_t *a, const uint32_t *b, size_t count) {
-    if (memcmp(a, b, count * sizeof *a) != 0) {
-        fprintf(stderr, "%s on %s at %zu letters: the two differ\n", call, family, n);
+/* The calls */
+
+static lyndon_answer accepted(size_t count) { return (lyndon_answer){0, (uint32_t)count}; }
+static lyndon_answer refused(uint32_t number, size_t n, size_t at) { return (lyndon_answer){number, (uint32_t)(number == 0 ? n : at)}; }
+
+static void our_array(size_t n) { ours.answer = lyndon_array_u8(text, n, order, ours.first, n); }
+static void their_array(size_t n) { reference_array_u8(text, n, order, theirs.first), theirs.answer = accepted(n); }
+static void suffix_array(size_t n) { suffix_array_lyndon(text, n, order, by_suffixes.first), by_suffixes.answer = accepted(n); }
+
+static void our_array_u32(size_t n) { ours.answer = lyndon_array_u32(numbers, n, order, ours.first, n); }
+static void their_array_u32(size_t n) { reference_array_u32(numbers, n, order, theirs.first), theirs.answer = accepted(n); }
+
+static void our_runs(size_t n) { ours.answer = lyndon_runs(text, n, ours.first, 2 * n, ours.second, 6 * n); }
+static void their_runs(size_t n) { theirs.answer = accepted(reference_runs(text, n, theirs.first, theirs.second)); }
+
+static void our_factorization(size_t n) { ours.answer = lyndon_factorization(text, n, ours.first, n); }
+static void their_factorization(size_t n) { theirs.answer = accepted(reference_factorization(text, n, theirs.first)); }
+
+static void our_suffix_table(size_t n) { ours.answer = lyndon_suffix_table(text, n, ours.first, n); }
+static void their_suffix_table(size_t n) { reference_suffix_table(text, n, theirs.first), theirs.answer = accepted(n); }
+
+static void our_left_forest(size_t n) { ours.answer = lyndon_left_forest(text, n, ours.first, n, ours.second, n); }
+static void their_left_forest(size_t n) { reference_left_forest(text, n, theirs.first, theirs.second), theirs.answer = accepted(n); }
+
+static void our_right_forest(size_t n) { ours.answer = lyndon_right_forest(numbers, n, ours.first, n, ours.second, n); }
+static void their_right_forest(size_t n) {
+    size_t at = 0;
+    uint32_t number = reference_right_forest(numbers, n, theirs.first, theirs.second, &at);
+    theirs.answer = refused(number, n, at);
+}
+
+static void our_reconstruct(size_t n) { ours.answer = lyndon_reconstruct(numbers, n, ours.first, n); }
+static void their_reconstruct(size_t n) {
+    size_t at = 0;
+    uint32_t number = reference_reconstruct(numbers, n, theirs.first, &at);
+    theirs.answer = refused(number, n, at);
+}
+
+/* The reader's n is its input's length. */
+static void our_reader(size_t n) { ours.answer = lyndon_read_fasta(text, n, (uint8_t *)ours.first, 2048); }
+static void their_reader(size_t n) { theirs.answer = accepted(reference_read_fasta(text, n, (uint8_t *)theirs.first)); }
+
+/* The inputs */
+
+static uint32_t random_number(void) {
+    static uint64_t state = 88172645463325252ull;
+    state ^= state << 13, state ^= state >> 7, state ^= state << 17;
+    return (uint32_t)(state >> 32);
+}
+
+static void texts(int f, size_t n) { family_fill(f, text, n); }
+
+static const char *number_names[] = {"random letters", "rising letters", "falling letters"};
+static const char *number_name(int f) { return number_names[f]; }
+static void texts_of_numbers(int f, size_t n) {
+    for (size_t i = 0; i < n; i++) numbers[i] = f == 0 ? random_number() : f == 1 ? (uint32_t)i : (uint32_t)(n - i);
+}
+
+/* Arrays of the families, then arrays that no text has. */
+static const char *invalid_names[] = {"3, n - i, 1 repeated", "2 repeated", "1 repeated, crossing at end", "1 repeated, long at end"};
+static const char *array_name(int f) { return f < family_count() ? family_name(f) : invalid_names[f - family_count()]; }
+static void arrays(int f, size_t n) {
+    if (f < family_count()) {
+        family_fill(f, text, n);
+        reference_array_u8(text, n, 0, numbers);
+        return;
+    }
+    f -= family_count();
+    for (size_t i = 0; i < n; i++) {
+        size_t entry = f == 0 ? (i % 3 == 0 ? 3 : i % 3 == 1 ? n - i : 1) : f == 1 ? 2 : 1;
+        numbers[i] = (uint32_t)(entry > n - i ? n - i : entry);
+    }
+    if (f == 2) numbers[n - 3] = numbers[n - 2] = 2;
+    if (f == 3) numbers[n - 1] = 2;
+}
+
+static const char *record_names[] = {"one line", "lines of 60 letters", "a letter a line, CR LF"};
+static const char *record_name(int f) { return record_names[f]; }
+static void records(int f, size_t n) {
+    size_t width = f == 0 ? n : f == 1 ? 60 : 1, i = 4;
+    memcpy(text, ">m1\n", 4);
+    for (size_t in_line = 0; i < n; i++) {
+        if (in_line == width && i + 1 < n) {
+            if (f == 2) text[i++] = '\r';
+            text[i] = '\n', in_line = 0;
+        } else
+            text[i] = (uint8_t) "ACGT"[random_number() & 3], in_line++;
+    }
+}
+
+/* The tables */
+
+struct call {
+    const char *name;
+    uint32_t order;
+    void (*ours)(size_t), (*theirs)(size_t), (*suffixes)(size_t);
+    void (*fill)(int, size_t);
+    int inputs;
+    const char *(*input)(int);
+    size_t sizes[3];
+    double limit; /* the ratio asked for, or 0 */
+};
+
+struct result {
+    double growth, ratio, first_ratio, natural_ratio, slowest;
+    const char *growth_input, *ratio_input, *slowest_input;
+};
+
+static void compare(const struct call *call, int f, size_t n, const struct written *other) {
+    if (memcmp(&ours, other, sizeof ours) != 0) {
+        fprintf(stderr, "%s on %s at %zu letters: the two differ\n", call->name, call->input(f), n);
         exit(1);
     }
 }
 
-static const size_t sizes[3] = {65536, 262144, 1048576};
-
-static void array_calls(uint32_t order) {
-    double dna = 0, worst = 0, dna_ratio = 0, growth = 0;
-    const char *worst_name = "";
-    printf("\narray of bytes, order %u: ns a letter, this library / C -O3\n", order);
-    for (int f = 0; f < family_count(); f++) {
-        printf("  %-26s", family_name(f));
-        double first = 0, last = 0;
+static struct result table(const struct call *call) {
+    struct result result = {0};
+    double first_input = 0;
+    int suffixes = call->suffixes && suffix_array_installed();
+    printf("\n%s: ns a letter at %zu, %zu, %zu letters, this library / C -O3%s\n", call->name, call->sizes[0], call->sizes[1],
+        call->sizes[2], suffixes ? " / suffix array" : "");
+    order = call->order;
+    for (int f = 0; f < call->inputs; f++) {
+        double mine[3], other[3];
+        printf("  %-28s", call->input(f));
         for (int s = 0; s < 3; s++) {
-            size_t n = sizes[s];
-            family_fill(f, text, n);
-            double ours = BEST(n, 5, lyndon_array_u8(text, n, order, out, n));
-            double theirs = BEST(n, 5, reference_array_u8(text, n, order, want));
-            check("array", family_name(f), n, out, want, n);
-            printf("  %6.2f /%6.2f", ours, theirs);
-            if (s == 0) first = ours;
-            last = ours;
-            if (s == 2 && f == 0) dna = ours, dna_ratio = ours / theirs;
+            size_t n = call->sizes[s];
+            call->fill(f, n);
+            memset(&ours, 0, sizeof ours);
+            memset(&theirs, 0, sizeof theirs);
+            mine[s] = best(call->ours, n);
+            other[s] = best(call->theirs, n);
+            compare(call, f, n, &theirs);
+            printf("  %7.2f /%7.2f", mine[s], other[s]);
+            if (suffixes) {
+                memset(&by_suffixes, 0, sizeof by_suffixes);
+                printf(" /%7.2f", best(call->suffixes, n));
+                compare(call, f, n, &by_suffixes);
+            }
         }
-        if (last > worst) worst = last, worst_name = family_name(f);
-        if (last / first > growth) growth = last / first;
         printf("\n");
+        fflush(stdout);
+        double growth = mine[2] / mine[0], ratio = mine[2] / other[2];
+        if (f == 0) first_input = mine[2], result.first_ratio = ratio;
+        if (growth > result.growth) result.growth = growth, result.growth_input = call->input(f);
+        if (ratio > result.ratio) result.ratio = ratio, result.ratio_input = call->input(f);
+        if (call->fill == texts && family_natural(f) && ratio > result.natural_ratio) result.natural_ratio = ratio;
+        if (mine[2] / first_input > result.slowest) result.slowest = mine[2] / first_input, result.slowest_input = call->input(f);
     }
-    printf("  slowest family at 1,048,576 letters: %s, %.2f times random DNA; random DNA is %.2f times C; largest growth from 65,536 letters: %.2f\n",
-        worst_name, worst / dna, dna_ratio, growth);
+    return result;
 }
 
-static void array_wide(void) {
-    printf("\narray of 32-bit letters: ns a letter, this library / C -O3\n");
-    const char *names[3] = {"rising letters", "falling letters", "random letters"};
-    for (int f = 0; f < 3; f++)
-        for (uint32_t order = 0; order < 2; order++) {
-            printf("  %-18s order %u ", names[f], order);
-            for (int s = 0; s < 3; s++) {
-                size_t n = sizes[s];
-                uint32_t x = 12345;
-                for (size_t i = 0; i < n; i++) {
-                    x = x * 1664525u + 1013904223u;
-                    wide[i] = f == 0 ? (uint32_t)i : f == 1 ? (uint32_t)(n - i) : x;
-                }
-                double ours = BEST(n, 5, lyndon_array_u32(wide, n, order, out, n));
-                double theirs = BEST(n, 5, reference_array_u32(wide, n, order, want));
-                check("array32", names[f], n, out, want, n);
-                printf("  %6.2f /%6.2f", ours, theirs);
-            }
-            printf("\n");
-        }
-}
-
-static void run_calls(void) {
-    double dna = 0, worst = 0, natural_ratio = 0, growth = 0;
-    const char *worst_name = "";
-    printf("\nruns, both arrays and the sort included: ns a letter, this library / C -O3\n");
-    for (int f = 0; f < family_count(); f++) {
-        printf("  %-26s", family_name(f));
-        double first = 0, last = 0;
-        for (int s = 0; s < 3; s++) {
-            size_t n = sizes[s];
-            family_fill(f, text, n);
-            lyndon_answer answer = {0, 0};
-            size_t count = 0;
-            double ours = BEST(n, 5, answer = lyndon_runs(text, n, work, 2 * n, list, 6 * n));
-            double theirs = BEST(n, 5, count = reference_runs(text, n, work2, list2));
-            if (answer.number != 0 || answer.value != count) {
-                fprintf(stderr, "runs on %s: the counts differ\n", family_name(f));
-                exit(1);
-            }
-            check("runs", family_name(f), n, list, list2, 3 * count);
-            check("runs", family_name(f), n, work, work2, 2 * n);
-            printf("  %6.2f /%6.2f", ours, theirs);
-            if (s == 0) first = ours;
-            last = ours;
-            if (s == 2 && f == 0) dna = ours;
-            if (s == 2 && family_natural(f) && ours / theirs > natural_ratio) natural_ratio = ours / theirs;
-        }
-        if (last > worst) worst = last, worst_name = family_name(f);
-        if (last / first > growth) growth = last / first;
-        printf("\n");
-    }
-    printf("  slowest family at 1,048,576 letters: %s, %.2f times random DNA; natural families at most %.2f times C; largest growth from 65,536 letters: %.2f\n",
-        worst_name, worst / dna, natural_ratio, growth);
-}
+#define TEXT_SIZES {65536, 262144, 1048576}
 
 int main(void) {
-    printf("letters: 65,536  262,144  1,048,576; best of 5 runs\n");
-    array_calls(0);
-    array_calls(1);
-    array_wide();
-    run_calls();
+    struct call calls[] = {
+        {"array of bytes, rising", 0, our_array, their_array, suffix_array, texts, family_count(), family_name, TEXT_SIZES, 0},
+        {"array of bytes, falling", 1, our_array, their_array, suffix_array, texts, family_count(), family_name, TEXT_SIZES, 0},
+        {"array of numbers, rising", 0, our_array_u32, their_array_u32, 0, texts_of_numbers, 3, number_name, TEXT_SIZES, 0},
+        {"array of numbers, falling", 1, our_array_u32, their_array_u32, 0, texts_of_numbers, 3, number_name, TEXT_SIZES, 0},
+        {"runs", 0, our_runs, their_runs, 0, texts, family_count(), family_name, TEXT_SIZES, 0},
+        {"factorization", 0, our_factorization, their_factorization, 0, texts, family_count(), family_name, TEXT_SIZES, 2.5},
+        {"suffix table", 0, our_suffix_table, their_suffix_table, 0, texts, family_count(), family_name, TEXT_SIZES, 2.5},
+        {"left forest", 0, our_left_forest, their_left_forest, 0, texts, family_count(), family_name, TEXT_SIZES, 2.5},
+        {"right forest", 0, our_right_forest, their_right_forest, 0, arrays, family_count() + 4, array_name, TEXT_SIZES, 2.5},
+        {"reconstruct", 0, our_reconstruct, their_reconstruct, 0, arrays, family_count() + 4, array_name, TEXT_SIZES, 2.5},
+        {"FASTA reader", 0, our_reader, their_reader, 0, records, 3, record_name, {512, 1024, 2048}, 0},
+    };
+    int count = (int)(sizeof calls / sizeof calls[0]);
+    static struct result results[32];
+    printf("best of %d runs%s\n", RUNS, suffix_array_installed() ? "" : "; libdivsufsort is not installed");
+    for (int c = 0; c < count; c++) results[c] = table(&calls[c]);
+    printf("\ngrowth: the largest of ns a letter at the largest size over that at the smallest\n");
+    for (int c = 0; c < count; c++)
+        printf("  %-28s %6.2f (%s); slowest input %.2f times the first (%s)\n", calls[c].name, results[c].growth, results[c].growth_input,
+            results[c].slowest, results[c].slowest_input);
+    printf("\nratio: this library over C -O3 at the largest size\n");
+    for (int c = 0; c < count; c++) {
+        printf("  %-28s %6.2f on the first input, at most %.2f (%s)", calls[c].name, results[c].first_ratio, results[c].ratio, results[c].ratio_input);
+        if (calls[c].fill == texts) printf(", %.2f on natural families", results[c].natural_ratio);
+        if (calls[c].limit > 0) printf("; %.1f asked for: %s", calls[c].limit, results[c].ratio <= calls[c].limit ? "met" : "not met");
+        printf("\n");
+    }
     return 0;
 }

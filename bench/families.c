@@ -97,9 +97,9 @@ static const struct { const char *name; void (*fill)(uint8_t *, size_t); int nat
     {"Zimin", zimin, 0},
     {"w^k c w^m d", two_powers, 0},
     {"a^(m-1) b a^m b", hard_a, 0},
-    {"the same, turned", hard_a_turned, 0},
+    {"b^(m-1) a b^m a", hard_a_turned, 0},
     {"(ab)^k cb (ab)^k c", hard_ab, 0},
-    {"the same, turned", hard_ab_turned, 0},
+    {"(cb)^k ab (cb)^k a", hard_ab_turned, 0},
 };
 
 int family_count(void) { return (int)(sizeof families / sizeof families[0]); }

@@ -7,4 +7,13 @@ void reference_array_u8(const uint8_t *x, size_t n, uint32_t order, uint32_t *L)
 void reference_array_u32(const uint32_t *x, size_t n, uint32_t order, uint32_t *L);
 /* The number of runs; list holds three numbers for each. */
 size_t reference_runs(const uint8_t *x, size_t n, uint32_t *work, uint32_t *list);
+/* The number of factors. */
+size_t reference_factorization(const uint8_t *x, size_t n, uint32_t *out);
+void reference_suffix_table(const uint8_t *x, size_t n, uint32_t *out);
+void reference_left_forest(const uint8_t *x, size_t n, uint32_t *first, uint32_t *past);
+/* 0, or the number of the refusal and its position. */
+uint32_t reference_right_forest(const uint32_t *array, size_t n, uint32_t *first, uint32_t *past, size_t *at);
+uint32_t reference_reconstruct(const uint32_t *array, size_t n, uint32_t *text, size_t *at);
+/* The number of letters. */
+size_t reference_read_fasta(const uint8_t *input, size_t n, uint8_t *letters);
 #endif

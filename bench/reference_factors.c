@@ -1,0 +1,48 @@
+/* The algorithms of the factor list, the suffix table and the left forest in C, to compare speed with. */
+#include "reference.h"
+
+size_t reference_factorization(const uint8_t *x, size_t n, uint32_t *out) {
+    size_t count = 0, start = 0;
+    while (start < n) {
+        size_t p = 1, e = start + 1;
+        while (e < n && x[e] >= x[e - p]) {
+            if (x[e] > x[e - p]) p = e + 1 - start;
+            e++;
+        }
+        for (; start + p <= e; start += p) out[count++] = (uint32_t)start;
+    }
+    return count;
+}
+
+void reference_suffix_table(const uint8_t *x, size_t n, uint32_t *out) {
+    size_t start = 0;
+    while (start < n) {
+        size_t p = 1, e = start + 1;
+        out[start] = 1;
+        while (e < n && x[e] >= x[e - p]) {
+            if (x[e] > x[e - p]) {
+                p = e + 1 - start;
+                out[e] = (uint32_t)p;
+            } else
+                out[e] = out[e - p];
+            e++;
+        }
+        while (start + p <= e) start += p;
+    }
+}
+
+void reference_left_forest(const uint8_t *x, size_t n, uint32_t *first, uint32_t *past) {
+    reference_suffix_table(x, n, past);
+    size_t last = 0;
+    for (size_t e = 0; e < n; e++) {
+        first[e] = (uint32_t)last;
+        last = e + 1 - past[e];
+        for (size_t t = e; last < t; t = first[t]) past[t] = (uint32_t)(e + 1);
+    }
+    for (size_t t = last; t > 0;) {
+        size_t next = first[t];
+        first[t] = past[t] = (uint32_t)t;
+        t = next;
+    }
+    first[0] = past[0] = 0;
+}

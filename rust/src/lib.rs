@@ -1,0 +1,312 @@
+//! Lyndon arrays and what stands on them.
+//!
+//! A text is a row of 1 to 1,048,576 letters, positions count from 0. Each call has two forms: one that allocates what it returns, and
+//! one, named `.._into`, that writes into buffers of the caller and returns the count. The second form asks for buffers of the lengths that
+//! its description names; places past those written keep their content, and a call that refuses changes no buffer.
+//!
+//! The functions behind these wrappers are proved to do what the definitions say, for every input. The wrappers themselves are plain Rust.
+//!
+//! ```
+//! use lyndon::{lyndon_array, runs, Order, Run};
+//!
+//! assert_eq!(lyndon_array(b"abab", Order::Rising)?, [2, 1, 2, 1]);
+//! assert_eq!(lyndon_array(b"bab", Order::Falling)?, [2, 1, 1]);
+//! assert_eq!(runs(b"aabaab")?, [
+//!     Run { start: 0, last: 1, period: 1 },
+//!     Run { start: 0, last: 5, period: 3 },
+//!     Run { start: 3, last: 4, period: 1 },
+//! ]);
+//! # Ok::<(), lyndon::Error>(())
+//! ```
+#![deny(unsafe_code)]
+#![warn(missing_docs)]
+
+mod error;
+#[allow(unsafe_code)]
+mod ffi;
+
+pub use error::Error;
+
+/// The largest number of letters of a text, or of entries of an array.
+pub const MAX_LENGTH: usize = 1_048_576;
+/// The largest number of bytes of a FASTA input.
+pub const MAX_INPUT: usize = 8_192;
+/// The largest number of letters that [`read_fasta`] reads, and the length of the buffer that [`read_fasta_into`] asks for.
+pub const MAX_LETTERS: usize = 2_048;
+/// The numbers that the list of [`runs_into`] needs for each letter of the text.
+pub const LIST_PLACES: usize = 6;
+/// The numbers that the work buffer of [`runs_into`] needs for each letter of the text.
+pub const WORK_PLACES: usize = 2;
+
+/// How two letters compare. In both orders a proper prefix is smaller than the longer word.
+#[derive(Clone, Copy, Debug, Default, PartialEq, Eq, Hash)]
+pub enum Order {
+    /// By number.
+    #[default]
+    Rising,
+    /// By number, turned round.
+    Falling,
+}
+
+impl Order {
+    /// The number that the C interface has for it: 0 or 1.
+    pub fn number(self) -> u32 {
+        match self {
+            Order::Rising => 0,
+            Order::Falling => 1,
+        }
+    }
+}
+
+/// A maximal repetition: a span whose smallest period is at most half its length, and which no neighbour letter continues.
+#[derive(Clone, Copy, Debug, PartialEq, Eq, PartialOrd, Ord, Hash)]
+pub struct Run {
+    /// The first position.
+    pub start: u32,
+    /// The last position.
+    pub last: u32,
+    /// The smallest period.
+    pub period: u32,
+}
+
+impl Run {
+    /// The span as a range of positions.
+    ///
+    /// ```
+    /// let run = lyndon::Run { start: 1, last: 4, period: 2 };
+    /// assert_eq!(&b"xabab"[run.range()], b"abab");
+    /// ```
+    pub fn range(&self) -> std::ops::Range<usize> {
+        self.start as usize..self.last as usize + 1
+    }
+}
+
+/// A forest of cuts. A position that starts a factor holds itself in both rows; at any other position `j` exactly one cut `u·v` falls
+/// before `j`: `first[j]` is the start of `u`, `past[j]` the end of `v` (one past its last position).
+#[derive(Clone, Debug, PartialEq, Eq)]
+pub struct Forest {
+    /// For each position the start of `u`.
+    pub first: Vec<u32>,
+    /// For each position the end of `v`.
+    pub past: Vec<u32>,
+}
+
+fn counted(answer: ffi::Answer) -> Result<usize, Error> {
+    match answer.number {
+        0 => Ok(answer.value as usize),
+        number => Err(Error { number, position: answer.value }),
+    }
+}
+
+/// Room for `places` numbers for each of `n` letters; no more than the longest text needs, since a longer one is refused before its
+/// buffers are measured.
+fn room(n: usize, places: usize) -> Vec<u32> {
+    vec![0; n.min(MAX_LENGTH) * places]
+}
+
+fn filled(n: usize, call: impl FnOnce(&mut [u32]) -> Result<usize, Error>) -> Result<Vec<u32>, Error> {
+    let mut out = room(n, 1);
+    let count = call(&mut out)?;
+    out.truncate(count);
+    Ok(out)
+}
+
+fn forest(n: usize, call: impl FnOnce(&mut [u32], &mut [u32]) -> Result<usize, Error>) -> Result<Forest, Error> {
+    let (mut first, mut past) = (room(n, 1), room(n, 1));
+    call(&mut first, &mut past)?;
+    Ok(Forest { first, past })
+}
+
+/// The Lyndon array of a text of bytes: entry `i` is the length of the longest Lyndon word that starts at `i`.
+///
+/// ```
+/// use lyndon::{lyndon_array, Order};
+/// assert_eq!(lyndon_array(b"ba", Order::Rising)?, [1, 1]);
+/// assert_eq!(lyndon_array(b"ba", Order::Falling)?, [2, 1]);
+/// assert_eq!(lyndon_array(b"", Order::Rising).unwrap_err().number, 1);
+/// # Ok::<(), lyndon::Error>(())
+/// ```
+pub fn lyndon_array(text: &[u8], order: Order) -> Result<Vec<u32>, Error> {
+    filled(text.len(), |out| lyndon_array_into(text, order, out))
+}
+
+/// [`lyndon_array`] into a buffer of at least `n` places. The count is `n`. Refusals 1, 2, 4.
+///
+/// ```
+/// use lyndon::{lyndon_array_into, Order};
+/// let mut out = [7; 6];
+/// assert_eq!(lyndon_array_into(b"abab", Order::Rising, &mut out)?, 4);
+/// assert_eq!(out, [2, 1, 2, 1, 7, 7]);
+/// assert_eq!(lyndon_array_into(b"abab", Order::Rising, &mut out[..3]).unwrap_err().number, 4);
+/// # Ok::<(), lyndon::Error>(())
+/// ```
+pub fn lyndon_array_into(text: &[u8], order: Order, out: &mut [u32]) -> Result<usize, Error> {
+    counted(ffi::array_u8(text, order.number(), out))
+}
+
+/// The Lyndon array of a text of 32-bit letters.
+///
+/// ```
+/// use lyndon::{lyndon_array_u32, Order};
+/// assert_eq!(lyndon_array_u32(&[70_000, 1, 70_000], Order::Rising)?, [1, 2, 1]);
+/// # Ok::<(), lyndon::Error>(())
+/// ```
+pub fn lyndon_array_u32(text: &[u32], order: Order) -> Result<Vec<u32>, Error> {
+    filled(text.len(), |out| lyndon_array_u32_into(text, order, out))
+}
+
+/// [`lyndon_array_u32`] into a buffer of at least `n` places. The count is `n`. Refusals 1, 2, 4.
+pub fn lyndon_array_u32_into(text: &[u32], order: Order, out: &mut [u32]) -> Result<usize, Error> {
+    counted(ffi::array_u32(text, order.number(), out))
+}
+
+/// The starts of the factors of the Lyndon factorization: each factor is a Lyndon word and none is smaller than the next.
+///
+/// ```
+/// assert_eq!(lyndon::factorization(b"abbababaababbaba")?, [0, 3, 5, 7, 15]);
+/// # Ok::<(), lyndon::Error>(())
+/// ```
+pub fn factorization(text: &[u8]) -> Result<Vec<u32>, Error> {
+    filled(text.len(), |out| factorization_into(text, out))
+}
+
+/// [`factorization`] into a buffer of at least `n` places. The count is the number of factors. Refusals 1, 2, 4.
+///
+/// ```
+/// let mut out = [9; 4];
+/// assert_eq!(lyndon::factorization_into(b"abab", &mut out)?, 2);
+/// assert_eq!(out, [0, 2, 9, 9]);
+/// # Ok::<(), lyndon::Error>(())
+/// ```
+pub fn factorization_into(text: &[u8], out: &mut [u32]) -> Result<usize, Error> {
+    counted(ffi::factorization(text, out))
+}
+
+/// The Lyndon suffix table: entry `j` is the length of the longest Lyndon word that ends at `j`.
+///
+/// ```
+/// assert_eq!(lyndon::suffix_table(b"babbababbaabb")?, [1, 1, 2, 3, 1, 2, 1, 2, 5, 1, 1, 3, 4]);
+/// # Ok::<(), lyndon::Error>(())
+/// ```
+pub fn suffix_table(text: &[u8]) -> Result<Vec<u32>, Error> {
+    filled(text.len(), |out| suffix_table_into(text, out))
+}
+
+/// [`suffix_table`] into a buffer of at least `n` places. The count is `n`. Refusals 1, 2, 4.
+pub fn suffix_table_into(text: &[u8], out: &mut [u32]) -> Result<usize, Error> {
+    counted(ffi::suffix_table(text, out))
+}
+
+/// The left Lyndon forest: each factor of two letters or more is cut as `u·v`, `u` its longest proper Lyndon prefix, and `u` and `v`
+/// likewise.
+///
+/// ```
+/// let forest = lyndon::left_forest(b"aabb")?;
+/// assert_eq!(forest.first, [0, 0, 1, 0]);
+/// assert_eq!(forest.past, [0, 3, 3, 4]);
+/// # Ok::<(), lyndon::Error>(())
+/// ```
+pub fn left_forest(text: &[u8]) -> Result<Forest, Error> {
+    forest(text.len(), |first, past| left_forest_into(text, first, past))
+}
+
+/// [`left_forest`] into two buffers of at least `n` places each. The count is `n`. Refusals 1, 2, 4.
+pub fn left_forest_into(text: &[u8], first: &mut [u32], past: &mut [u32]) -> Result<usize, Error> {
+    counted(ffi::left_forest(text, first, past))
+}
+
+/// The right Lyndon forest of every text that has this Lyndon array: each factor of two letters or more is cut as `u·v`, `v` its longest
+/// proper Lyndon suffix, and `u` and `v` likewise.
+///
+/// ```
+/// use lyndon::{lyndon_array, right_forest, Order};
+/// let forest = right_forest(&lyndon_array(b"aabb", Order::Rising)?)?;
+/// assert_eq!(forest.first, [0, 0, 1, 1]);
+/// assert_eq!(forest.past, [0, 4, 3, 4]);
+/// # Ok::<(), lyndon::Error>(())
+/// ```
+pub fn right_forest(array: &[u32]) -> Result<Forest, Error> {
+    forest(array.len(), |first, past| right_forest_into(array, first, past))
+}
+
+/// [`right_forest`] into two buffers of at least `n` places each. The count is `n`. Refusals 1, 2, 4, and 6, 7, 8 for an array that no
+/// text has.
+pub fn right_forest_into(array: &[u32], first: &mut [u32], past: &mut [u32]) -> Result<usize, Error> {
+    counted(ffi::right_forest(array, first, past))
+}
+
+/// A text of 32-bit letters that has this Lyndon array; each of the letters 0 to n − 1 is used once.
+///
+/// ```
+/// assert_eq!(lyndon::reconstruct(&[2, 1, 5, 2, 1, 2, 1, 3, 2, 1])?, [8, 9, 3, 6, 7, 4, 5, 0, 1, 2]);
+/// let error = lyndon::reconstruct(&[2, 2, 1]).unwrap_err();
+/// assert_eq!((error.number, error.position), (8, 1));
+/// # Ok::<(), lyndon::Error>(())
+/// ```
+pub fn reconstruct(array: &[u32]) -> Result<Vec<u32>, Error> {
+    filled(array.len(), |out| reconstruct_into(array, out))
+}
+
+/// [`reconstruct`] into a buffer of at least `n` places. The count is `n`. Refusals 1, 2, 4, and 6, 7, 8 for an array that no text has.
+pub fn reconstruct_into(array: &[u32], text: &mut [u32]) -> Result<usize, Error> {
+    counted(ffi::reconstruct(array, text))
+}
+
+/// All runs of a text, by start and then by last position.
+///
+/// ```
+/// use lyndon::{runs, Run};
+/// assert_eq!(runs(b"aaaa")?, [Run { start: 0, last: 3, period: 1 }]);
+/// assert_eq!(runs(b"a")?, []);
+/// # Ok::<(), lyndon::Error>(())
+/// ```
+pub fn runs(text: &[u8]) -> Result<Vec<Run>, Error> {
+    let (mut work, mut list) = (room(text.len(), WORK_PLACES), room(text.len(), LIST_PLACES));
+    let count = runs_into(text, &mut work, &mut list)?;
+    Ok(listed(&list[..3 * count]).collect())
+}
+
+/// [`runs`] into a list of at least `6 n` places: start, last position and period of each run; [`listed`] reads them. The count is the
+/// number of runs. The work buffer has at least `2 n` places, and afterwards holds the rising Lyndon array and then the falling one.
+/// Refusals 1, 2, 4 (list), 5 (work).
+///
+/// ```
+/// let (mut work, mut list) = ([0; 6], [0; 18]);
+/// assert_eq!(lyndon::runs_into(b"aab", &mut work, &mut list)?, 1);
+/// assert_eq!(list[..3], [0, 1, 1]);
+/// assert_eq!(work, [3, 2, 1, 1, 1, 1]);
+/// # Ok::<(), lyndon::Error>(())
+/// ```
+pub fn runs_into(text: &[u8], work: &mut [u32], list: &mut [u32]) -> Result<usize, Error> {
+    counted(ffi::runs(text, work, list))
+}
+
+/// The runs that a list of numbers holds, three for each.
+///
+/// ```
+/// let runs: Vec<_> = lyndon::listed(&[0, 3, 1]).collect();
+/// assert_eq!(runs, [lyndon::Run { start: 0, last: 3, period: 1 }]);
+/// ```
+pub fn listed(numbers: &[u32]) -> impl Iterator<Item = Run> + '_ {
+    numbers.chunks_exact(3).map(|run| Run { start: run[0], last: run[1], period: run[2] })
+}
+
+/// The letters of a FASTA input of one record, kept as they are.
+///
+/// ```
+/// assert_eq!(lyndon::read_fasta(b">m1 a name\nACgt\r\nNN\n")?, b"ACgtNN");
+/// let error = lyndon::read_fasta(b">m1\nAC-GT\n").unwrap_err();
+/// assert_eq!((error.number, error.position), (11, 6));
+/// # Ok::<(), lyndon::Error>(())
+/// ```
+pub fn read_fasta(input: &[u8]) -> Result<Vec<u8>, Error> {
+    let mut letters = vec![0; MAX_LETTERS];
+    let count = read_fasta_into(input, &mut letters)?;
+    letters.truncate(count);
+    Ok(letters)
+}
+
+/// [`read_fasta`] into a buffer of at least 2,048 places. The count is the number of letters. Refusals 4 and 9 to 15.
+pub fn read_fasta_into(input: &[u8], letters: &mut [u8]) -> Result<usize, Error> {
+    counted(ffi::read_fasta(input, letters))
+}

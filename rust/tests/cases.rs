@@ -1,0 +1,113 @@
+//! The outside cases: expected answers of a reference by other hands (tests/data/public_base.jsonl).
+mod common;
+mod definitions;
+
+use common::json::Json;
+use lyndon::Error;
+
+fn wanted(want: &Json) -> Result<usize, Error> {
+    match want.get("ok") {
+        Some(count) => Ok(count.number() as usize),
+        None => Err(Error { number: want.get("no").unwrap().number() as u32, position: want.get("at").unwrap().number() as u32 }),
+    }
+}
+
+fn numbers(case: &Json, name: &str) -> Option<Vec<u32>> {
+    case.get(name).map(Json::numbers)
+}
+
+/// Runs every case of the calls named, each with its buffers of the lengths lent, and returns how many there were.
+fn run_cases(calls: &[&str], run: impl Fn(&str, &str, &Json, &Json)) -> usize {
+    let mut count = 0;
+    for line in include_str!("data/public_base.jsonl").lines() {
+        let case = Json::read(line);
+        let call = case.get("call").unwrap().text().to_string();
+        if calls.contains(&&call[..]) {
+            run(&line[..line.len().min(300)], &call, &case, case.get("want").unwrap());
+            count += 1;
+        }
+    }
+    count
+}
+
+fn places(case: &Json, name: &str, ample: usize) -> Vec<u32> {
+    vec![0; case.get(name).map_or(ample, |p| p.number() as usize)]
+}
+
+#[test]
+fn calls_with_one_buffer() {
+    let calls = ["array8", "array32", "factors", "prefix", "judge"];
+    let count = run_cases(&calls, |line, call, case, want| {
+        let text = case.get("text").map(Json::bytes).unwrap_or_default();
+        let entries = numbers(case, "array").or(numbers(case, "letters")).unwrap_or_default();
+        let order = case.get("order").map_or(0, |o| o.number() as u32);
+        let mut out = places(case, "places", text.len().max(entries.len()) + 5);
+        let got = match call {
+            "array8" => common::array8(&text, order, &mut out),
+            "array32" => common::array32(&entries, order, &mut out),
+            "factors" => common::factors(&text, &mut out),
+            "prefix" => common::suffix_table(&text, &mut out),
+            _ => common::reconstruct(&entries, &mut out),
+        };
+        let written = numbers(want, "out");
+        common::compare(line, got, &[&out], wanted(want), &[written.as_deref()]);
+    });
+    assert_eq!(count, 234 + 24 + 115 + 113 + 403);
+}
+
+#[test]
+fn forests() {
+    let count = run_cases(&["left", "right"], |line, call, case, want| {
+        let text = case.get("text").map(Json::bytes).unwrap_or_default();
+        let entries = numbers(case, "array").unwrap_or_default();
+        let ample = text.len().max(entries.len()) + 5;
+        let mut past = places(case, "places", ample);
+        let mut first = places(case, "first_places", ample);
+        let got = match call {
+            "left" => common::left_forest(&text, &mut first, &mut past),
+            _ => common::right_forest(&entries, &mut first, &mut past),
+        };
+        let (w_first, w_past) = (numbers(want, "first"), numbers(want, "past"));
+        common::compare(line, got, &[&first, &past], wanted(want), &[w_first.as_deref(), w_past.as_deref()]);
+    });
+    assert_eq!(count, 116 + 515);
+}
+
+#[test]
+fn runs() {
+    let count = run_cases(&["runs"], |line, _, case, want| {
+        let text = case.get("text").unwrap().bytes();
+        let mut list = places(case, "places", 6 * text.len() + 5);
+        let mut work = places(case, "work", 2 * text.len() + 5);
+        let got = common::runs(&text, &mut work, &mut list);
+        let (w_work, w_list) = (numbers(want, "work"), numbers(want, "list"));
+        common::compare(line, got, &[&work, &list], wanted(want), &[w_work.as_deref(), w_list.as_deref()]);
+    });
+    assert_eq!(count, 120);
+}
+
+#[test]
+fn reader() {
+    let count = run_cases(&["reader"], |line, _, case, want| {
+        let input = case.get("input").unwrap().bytes();
+        let mut letters = vec![0u8; case.get("places").map_or(2053, |p| p.number() as usize)];
+        let got = common::read_fasta(&input, &mut letters);
+        let written = want.get("letters").map(Json::bytes);
+        common::compare(line, got, &[&letters], wanted(want), &[written.as_deref()]);
+    });
+    assert_eq!(count, 140);
+}
+
+#[test]
+fn lister() {
+    let Some(program) = common::lister::program() else {
+        println!("there is no crate repeats yet: its cases are not run");
+        return;
+    };
+    let count = run_cases(&["lister"], |line, _, case, want| {
+        let input = case.get("input").unwrap().bytes();
+        let out = common::lister::run(&program, &input);
+        assert_eq!(String::from_utf8_lossy(&out), String::from_utf8_lossy(&want.get("out").unwrap().bytes()), "{line}");
+    });
+    assert_eq!(count, 110);
+}

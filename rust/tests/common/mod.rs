@@ -1,0 +1,268 @@
+//! Calls of the library with every buffer compared in full, and texts to call it on.
+#![allow(dead_code)]
+
+pub mod json;
+pub mod lister;
+
+use crate::definitions::Expected;
+use lyndon::{Error, Order};
+
+extern "C" {
+    fn lyndon_array_u8(text: *const u8, n: usize, order: u32, out: *mut u32, out_len: usize) -> Record;
+    fn lyndon_array_u32(text: *const u32, n: usize, order: u32, out: *mut u32, out_len: usize) -> Record;
+}
+
+/// The record of the C interface.
+#[repr(C)]
+struct Record {
+    number: u32,
+    value: u32,
+}
+
+fn result(record: Record) -> Result<usize, Error> {
+    match record.number {
+        0 => Ok(record.value as usize),
+        number => Err(Error { number, position: record.value }),
+    }
+}
+
+fn order_of(number: u32) -> Option<Order> {
+    [Order::Rising, Order::Falling].into_iter().find(|o| o.number() == number)
+}
+
+/// Numbers that no call leaves by chance.
+pub trait Filler: Copy + PartialEq + std::fmt::Debug {
+    fn filler(i: usize) -> Self;
+}
+
+impl Filler for u32 {
+    fn filler(i: usize) -> u32 {
+        0xa5a5_0000 ^ (i as u32).wrapping_mul(0x9e37_79b1)
+    }
+}
+
+impl Filler for u8 {
+    fn filler(i: usize) -> u8 {
+        (i as u8).wrapping_mul(29) ^ 0x81
+    }
+}
+
+pub fn fill<T: Filler>(buffer: &mut [T]) {
+    for (i, place) in buffer.iter_mut().enumerate() {
+        *place = T::filler(i);
+    }
+}
+
+/// Holds the answer and the whole content of every buffer to what is expected. A buffer of `written` that is absent was not stated.
+pub fn compare<T: Filler>(what: &str, got: Result<usize, Error>, buffers: &[&[T]], wanted: Result<usize, Error>, written: &[Option<&[T]>]) {
+    assert_eq!(got, wanted, "answer of {what}");
+    for (b, buffer) in buffers.iter().enumerate() {
+        let kept = match (wanted.is_ok(), written.get(b)) {
+            (false, _) => 0,
+            (true, Some(Some(front))) => {
+                assert!(
+                    buffer.len() >= front.len() && buffer[..front.len()] == **front,
+                    "buffer {b} of {what}: {:?}, expected {front:?}",
+                    &buffer[..front.len().min(buffer.len())]
+                );
+                front.len()
+            }
+            (true, _) => continue,
+        };
+        for (i, place) in buffer.iter().enumerate().skip(kept) {
+            assert_eq!(*place, T::filler(i), "buffer {b} of {what}: place {i} has changed");
+        }
+    }
+}
+
+pub fn compare_all<T: Filler>(what: &str, got: Result<usize, Error>, buffers: &[&[T]], expected: &Expected<T>) {
+    match expected {
+        Expected::Accepted { count, written } => {
+            let fronts: Vec<Option<&[T]>> = written.iter().map(|w| Some(&w[..])).collect();
+            compare(what, got, buffers, Ok(*count), &fronts);
+        }
+        Expected::Refused { number, position } => {
+            compare(what, got, buffers, Err(Error { number: *number, position: *position }), &[]);
+        }
+    }
+}
+
+/// The array by any order number: through the crate where it has a name for the number, else by the C interface itself.
+pub fn array8(text: &[u8], order: u32, out: &mut [u32]) -> Result<usize, Error> {
+    fill(out);
+    match order_of(order) {
+        Some(order) => lyndon::lyndon_array_into(text, order, out),
+        None => result(unsafe { lyndon_array_u8(text.as_ptr(), text.len(), order, out.as_mut_ptr(), out.len()) }),
+    }
+}
+
+pub fn array32(text: &[u32], order: u32, out: &mut [u32]) -> Result<usize, Error> {
+    fill(out);
+    match order_of(order) {
+        Some(order) => lyndon::lyndon_array_u32_into(text, order, out),
+        None => result(unsafe { lyndon_array_u32(text.as_ptr(), text.len(), order, out.as_mut_ptr(), out.len()) }),
+    }
+}
+
+pub fn factors(text: &[u8], out: &mut [u32]) -> Result<usize, Error> {
+    fill(out);
+    lyndon::factorization_into(text, out)
+}
+
+pub fn suffix_table(text: &[u8], out: &mut [u32]) -> Result<usize, Error> {
+    fill(out);
+    lyndon::suffix_table_into(text, out)
+}
+
+pub fn left_forest(text: &[u8], first: &mut [u32], past: &mut [u32]) -> Result<usize, Error> {
+    fill(first);
+    fill(past);
+    lyndon::left_forest_into(text, first, past)
+}
+
+pub fn right_forest(array: &[u32], first: &mut [u32], past: &mut [u32]) -> Result<usize, Error> {
+    fill(first);
+    fill(past);
+    lyndon::right_forest_into(array, first, past)
+}
+
+pub fn reconstruct(array: &[u32], text: &mut [u32]) -> Result<usize, Error> {
+    fill(text);
+    lyndon::reconstruct_into(array, text)
+}
+
+pub fn runs(text: &[u8], work: &mut [u32], list: &mut [u32]) -> Result<usize, Error> {
+    fill(work);
+    fill(list);
+    lyndon::runs_into(text, work, list)
+}
+
+pub fn read_fasta(input: &[u8], letters: &mut [u8]) -> Result<usize, Error> {
+    fill(letters);
+    lyndon::read_fasta_into(input, letters)
+}
+
+// Texts
+
+/// A generator of numbers with a fixed seed (xorshift64*).
+pub struct Numbers(u64);
+
+impl Numbers {
+    pub fn new(seed: u64) -> Numbers {
+        Numbers(seed.wrapping_mul(0x9e37_79b9_7f4a_7c15) | 1)
+    }
+
+    pub fn next(&mut self) -> u64 {
+        self.0 ^= self.0 >> 12;
+        self.0 ^= self.0 << 25;
+        self.0 ^= self.0 >> 27;
+        self.0.wrapping_mul(0x2545_f491_4f6c_dd1d)
+    }
+
+    /// Below `n`.
+    pub fn below(&mut self, n: usize) -> usize {
+        ((self.next() >> 33) as usize) % n
+    }
+
+    pub fn pick<T: Copy>(&mut self, from: &[T]) -> T {
+        from[self.below(from.len())]
+    }
+
+    pub fn text(&mut self, alphabet: &[u8], n: usize) -> Vec<u8> {
+        (0..n).map(|_| self.pick(alphabet)).collect()
+    }
+}
+
+pub fn fibonacci(n: usize) -> Vec<u8> {
+    let (mut a, mut b) = (b"a".to_vec(), b"ab".to_vec());
+    while b.len() < n {
+        let next = [&b[..], &a[..]].concat();
+        a = b;
+        b = next;
+    }
+    b.truncate(n);
+    b
+}
+
+pub fn thue_morse(n: usize) -> Vec<u8> {
+    (0..n).map(|i: usize| b'a' + (i.count_ones() % 2) as u8).collect()
+}
+
+pub fn zimin(n: usize) -> Vec<u8> {
+    (1..=n).map(|i: usize| b'a' + i.trailing_zeros() as u8).collect()
+}
+
+pub fn power(w: &[u8], n: usize) -> Vec<u8> {
+    w.iter().copied().cycle().take(n).collect()
+}
+
+/// w^k c w^m d of n letters.
+pub fn two_powers(w: &[u8], n: usize) -> Vec<u8> {
+    let half = n / 2;
+    let mut text = power(w, half);
+    text.extend(power(w, n - half));
+    if half > 0 {
+        text[half - 1] = b'c';
+    }
+    if n > 0 {
+        text[n - 1] = b'd';
+    }
+    text
+}
+
+/// Random letters, gaps and tandem repeats in turn.
+pub fn repetitive(numbers: &mut Numbers, n: usize) -> Vec<u8> {
+    let mut text = vec![];
+    while text.len() < n {
+        let k = 1 + numbers.below(n / 8 + 2);
+        let unit_length = 1 + numbers.below(12);
+        let unit = numbers.text(b"ACGT", unit_length);
+        match numbers.below(3) {
+            0 => text.extend(numbers.text(b"ACGT", k)),
+            1 => text.extend(power(b"N", k)),
+            _ => text.extend(power(&unit, k)),
+        }
+    }
+    text.truncate(n);
+    text
+}
+
+/// The families of texts that are known to be hard, of n letters, with a name for each.
+pub fn families(n: usize) -> Vec<(String, Vec<u8>)> {
+    let mut numbers = Numbers::new(77);
+    let half = n / 2;
+    let mut hard_a = power(b"a", n);
+    let mut hard_ab = [power(b"ab", half), power(b"ab", n - half)].concat();
+    let mut end_b = power(b"a", n);
+    if n >= 8 {
+        hard_a[half - 1] = b'b';
+        hard_a[n - 1] = b'b';
+        hard_ab[half - 2] = b'c';
+        hard_ab[half - 1] = b'b';
+        hard_ab[n - 1] = b'c';
+        end_b[n - 1] = b'b';
+    }
+    let turned = |x: &[u8]| x.iter().map(|&c| b'z' - (c - b'a')).collect::<Vec<u8>>();
+    let mut list = vec![
+        ("fibonacci".to_string(), fibonacci(n)),
+        ("thue-morse".to_string(), thue_morse(n)),
+        ("zimin".to_string(), zimin(n)),
+        ("equal letters".to_string(), power(b"a", n)),
+        ("a^n b".to_string(), end_b),
+        ("(ab)^k".to_string(), power(b"ab", n)),
+        ("(aab)^k".to_string(), power(b"aab", n)),
+        ("(ab)^k c (ab)^m d".to_string(), two_powers(b"ab", n)),
+        ("(aabab)^k c (aabab)^m d".to_string(), two_powers(b"aabab", n)),
+        ("(abb)^k c (abb)^m d".to_string(), two_powers(b"abb", n)),
+        ("a^(m-1) b a^m b".to_string(), hard_a),
+        ("(ab)^k cb (ab)^k c".to_string(), hard_ab),
+        ("dna, gaps and repeats".to_string(), repetitive(&mut numbers, n)),
+    ];
+    let turned: Vec<_> = list[..12].iter().map(|(name, x)| (format!("{name}, turned"), turned(x))).collect();
+    list.extend(turned);
+    list.push(("random, 2 letters".to_string(), numbers.text(b"ab", n)));
+    list.push(("random, 4 letters".to_string(), numbers.text(b"ACGT", n)));
+    let bytes: Vec<u8> = (0..=255).collect();
+    list.push(("random bytes".to_string(), numbers.text(&bytes, n)));
+    list
+}

@@ -1,0 +1,309 @@
+//! The definitions of the specification, computed as they are written: slow, and plain enough to be read beside it.
+//! Nothing here calls the library.
+#![allow(dead_code)]
+
+/// What a call answers, and what it writes into the front of each of its buffers.
+#[derive(Clone, Debug, PartialEq)]
+pub enum Expected<T> {
+    Accepted { count: usize, written: Vec<Vec<T>> },
+    Refused { number: u32, position: u32 },
+}
+
+use Expected::{Accepted, Refused};
+
+fn refused<T>(number: u32, position: usize) -> Expected<T> {
+    Refused { number, position: position as u32 }
+}
+
+pub const MAX_LENGTH: usize = 1_048_576;
+
+// Words
+
+/// Letters compare by number in order 0, the other way in order 1.
+pub fn letter_less<L: Ord>(order: u32, a: &L, b: &L) -> bool {
+    if order == 0 {
+        a < b
+    } else {
+        b < a
+    }
+}
+
+/// By the first letter that differs; a proper prefix is smaller.
+pub fn word_less<L: Ord>(order: u32, u: &[L], v: &[L]) -> bool {
+    for (a, b) in u.iter().zip(v) {
+        if a != b {
+            return letter_less(order, a, b);
+        }
+    }
+    u.len() < v.len()
+}
+
+/// Smaller than each of its proper non-empty suffixes.
+pub fn is_lyndon<L: Ord>(order: u32, w: &[L]) -> bool {
+    !w.is_empty() && (1..w.len()).all(|k| word_less(order, w, &w[k..]))
+}
+
+/// Entry i is the length of the longest Lyndon word that starts at i.
+pub fn array<L: Ord>(order: u32, x: &[L]) -> Vec<u32> {
+    let n = x.len();
+    (0..n).map(|i| (i + 1..=n).rev().find(|&e| is_lyndon(order, &x[i..e])).unwrap() - i).map(|l| l as u32).collect()
+}
+
+/// Entry j is the length of the longest Lyndon word that ends at j.
+pub fn suffix_table(x: &[u8]) -> Vec<u32> {
+    (0..x.len()).map(|j| j + 1 - (0..=j).find(|&i| is_lyndon(0, &x[i..=j])).unwrap()).map(|l| l as u32).collect()
+}
+
+/// The starts of the factors: all ways to cut the text into Lyndon words none of which is smaller than the next; there is one.
+pub fn factors(x: &[u8]) -> Vec<u32> {
+    let n = x.len();
+    // ways[i]: the ends of the factors of each way to cut what starts at i.
+    let mut ways: Vec<Vec<Vec<usize>>> = vec![vec![]; n + 1];
+    ways[n] = vec![vec![]];
+    for i in (0..n).rev() {
+        for e in i + 1..=n {
+            if !is_lyndon(0, &x[i..e]) {
+                continue;
+            }
+            for rest in ways[e].clone() {
+                if rest.first().is_none_or(|&next| !word_less(0, &x[i..e], &x[e..next])) {
+                    let mut way = vec![e];
+                    way.extend(rest);
+                    ways[i].push(way);
+                }
+            }
+        }
+    }
+    assert_eq!(ways[0].len(), 1, "the factorization is unique");
+    let ends = &ways[0][0];
+    std::iter::once(0).chain(ends[..ends.len() - 1].iter().copied()).map(|i| i as u32).collect()
+}
+
+/// The spans of the factors.
+fn factor_spans(x: &[u8]) -> Vec<(usize, usize)> {
+    let starts = factors(x);
+    let ends = starts[1..].iter().map(|&e| e as usize).chain(std::iter::once(x.len()));
+    starts.iter().map(|&s| s as usize).zip(ends).collect()
+}
+
+/// FIRST and PAST of a forest, by the rule that cuts a word of two letters or more.
+fn forest(x: &[u8], cut: impl Fn(&[u8]) -> usize) -> (Vec<u32>, Vec<u32>) {
+    let (mut first, mut past) = (vec![0; x.len()], vec![0; x.len()]);
+    let mut open = factor_spans(x);
+    for &(start, _) in &open {
+        first[start] = start as u32;
+        past[start] = start as u32;
+    }
+    while let Some((s, e)) = open.pop() {
+        if e - s >= 2 {
+            let j = s + cut(&x[s..e]);
+            first[j] = s as u32;
+            past[j] = e as u32;
+            open.push((s, j));
+            open.push((j, e));
+        }
+    }
+    (first, past)
+}
+
+/// u is the longest proper Lyndon prefix.
+pub fn left_forest(x: &[u8]) -> (Vec<u32>, Vec<u32>) {
+    forest(x, |w| (1..w.len()).rev().find(|&k| is_lyndon(0, &w[..k])).unwrap())
+}
+
+/// v is the longest proper Lyndon suffix.
+pub fn right_forest(x: &[u8]) -> (Vec<u32>, Vec<u32>) {
+    forest(x, |w| (1..w.len()).find(|&k| is_lyndon(0, &w[k..])).unwrap())
+}
+
+/// The smallest period of a word.
+pub fn smallest_period(w: &[u8]) -> usize {
+    (1..=w.len()).find(|&p| (p..w.len()).all(|i| w[i] == w[i - p])).unwrap()
+}
+
+/// Spans whose smallest period p has 2p ≤ their length, and which have no neighbour letter that continues period p.
+pub fn runs(x: &[u8]) -> Vec<u32> {
+    let n = x.len();
+    let mut list = vec![];
+    for s in 0..n {
+        for e in s + 2..=n {
+            let p = smallest_period(&x[s..e]);
+            let before = s > 0 && x[s - 1] == x[s - 1 + p];
+            let behind = e < n && x[e] == x[e - p];
+            if 2 * p <= e - s && !before && !behind {
+                list.extend([s as u32, e as u32 - 1, p as u32]);
+            }
+        }
+    }
+    list
+}
+
+// Arrays
+
+/// The first fault of an array: number and position.
+pub fn fault(a: &[u32]) -> Option<(u32, usize)> {
+    let n = a.len();
+    for i in 0..n {
+        if a[i] == 0 {
+            return Some((6, i));
+        }
+        if a[i] as usize > n - i {
+            return Some((7, i));
+        }
+    }
+    let end = |i: usize| i + a[i] as usize;
+    (0..n).find(|&j| (0..j).any(|i| j < end(i) && end(j) > end(i))).map(|j| (8, j))
+}
+
+/// Letter i = (number of earlier positions whose span holds i) + n − i − entry i.
+pub fn text_for(a: &[u32]) -> Vec<u32> {
+    let n = a.len();
+    (0..n).map(|i| (0..i).filter(|&h| h + a[h] as usize > i).count() + n - i - a[i] as usize).map(|l| l as u32).collect()
+}
+
+/// The right forest of a valid array: that of the text written for it. The letters are few enough for bytes.
+fn forest_of_array(a: &[u32]) -> (Vec<u32>, Vec<u32>) {
+    let text: Vec<u8> = text_for(a).iter().map(|&l| u8::try_from(l).unwrap()).collect();
+    right_forest(&text)
+}
+
+// The reader
+
+/// What stands on the first line: where the line ends, or the name's fault.
+fn header(input: &[u8]) -> Result<usize, usize> {
+    let mut i = 1;
+    loop {
+        match input.get(i) {
+            None | Some(b' ' | b'\t' | b'\r' | b'\n') => break,
+            Some(33..=126) if i <= 60 => i += 1,
+            Some(_) => return Err(i),
+        }
+    }
+    if i == 1 {
+        return Err(1);
+    }
+    while i < input.len() && input[i] != b'\n' {
+        i += 1;
+    }
+    Ok(i)
+}
+
+pub fn read_fasta(input: &[u8], places: usize) -> Expected<u8> {
+    if places < 2048 {
+        return refused(4, 0);
+    }
+    if input.len() > 8192 {
+        return refused(15, 8192);
+    }
+    if input.first() != Some(&b'>') {
+        return refused(9, 0);
+    }
+    let body = match header(input) {
+        Ok(end) => end,
+        Err(i) => return refused(10, i),
+    };
+    let mut letters = vec![];
+    for i in body..input.len() {
+        match input[i] {
+            b'\n' => {}
+            b'\r' if input.get(i + 1) == Some(&b'\n') => {}
+            b'>' if input[i - 1] == b'\n' => return refused(12, i),
+            b'A'..=b'Z' | b'a'..=b'z' if letters.len() == 2048 => return refused(14, i),
+            b'A'..=b'Z' | b'a'..=b'z' => letters.push(input[i]),
+            _ => return refused(11, i),
+        }
+    }
+    if letters.is_empty() {
+        return refused(13, input.len());
+    }
+    Accepted { count: letters.len(), written: vec![letters] }
+}
+
+/// What the lister prints.
+pub fn listing(input: &[u8], runs: impl Fn(&[u8]) -> Vec<u32>) -> Vec<u8> {
+    match read_fasta(input, 2048) {
+        Refused { number, position } => format!("refused {number} at {position}\n").into_bytes(),
+        Accepted { written, .. } => {
+            let end = input[1..].iter().position(|b| b" \t\r\n".contains(b)).map_or(input.len(), |i| i + 1);
+            let mut out = vec![];
+            for run in runs(&written[0]).chunks(3) {
+                out.extend(&input[1..end]);
+                out.extend(format!("\t{}\t{}\tp{}\n", run[0], run[1] + 1, run[2]).into_bytes());
+            }
+            out
+        }
+    }
+}
+
+// The answers of the other calls: the checks of the table from the top row down, then the definition
+
+fn length_fault(n: usize) -> Option<u32> {
+    match n {
+        0 => Some(1),
+        _ if n > MAX_LENGTH => Some(2),
+        _ => None,
+    }
+}
+
+fn checked<T>(faults: &[(bool, u32)]) -> Option<Expected<T>> {
+    faults.iter().find(|fault| fault.0).map(|fault| refused(fault.1, 0))
+}
+
+/// The checks of length, order and output lengths.
+fn plain_checks(n: usize, order: u32, places: &[usize]) -> Option<Expected<u32>> {
+    if let Some(number) = length_fault(n) {
+        return Some(refused(number, 0));
+    }
+    checked(&[(order > 1, 3), (places.iter().any(|&p| p < n), 4)])
+}
+
+pub fn array_answer<L: Ord>(x: &[L], order: u32, places: usize) -> Expected<u32> {
+    plain_checks(x.len(), order, &[places]).unwrap_or_else(|| Accepted { count: x.len(), written: vec![array(order, x)] })
+}
+
+pub fn factors_answer(x: &[u8], places: usize) -> Expected<u32> {
+    plain_checks(x.len(), 0, &[places]).unwrap_or_else(|| {
+        let starts = factors(x);
+        Accepted { count: starts.len(), written: vec![starts] }
+    })
+}
+
+pub fn suffix_table_answer(x: &[u8], places: usize) -> Expected<u32> {
+    plain_checks(x.len(), 0, &[places]).unwrap_or_else(|| Accepted { count: x.len(), written: vec![suffix_table(x)] })
+}
+
+pub fn left_forest_answer(x: &[u8], first: usize, past: usize) -> Expected<u32> {
+    plain_checks(x.len(), 0, &[first, past]).unwrap_or_else(|| {
+        let (first, past) = left_forest(x);
+        Accepted { count: x.len(), written: vec![first, past] }
+    })
+}
+
+/// Buffers in the order work, list.
+pub fn runs_answer(x: &[u8], work: usize, list: usize) -> Expected<u32> {
+    let n = x.len();
+    if let Some(number) = length_fault(n) {
+        return refused(number, 0);
+    }
+    if let Some(answer) = checked(&[(list < 6 * n, 4), (work < 2 * n, 5)]) {
+        return answer;
+    }
+    let runs = runs(x);
+    let arrays = [array(0, x), array(1, x)].concat();
+    Accepted { count: runs.len() / 3, written: vec![arrays, runs] }
+}
+
+fn array_checks(a: &[u32], places: &[usize]) -> Option<Expected<u32>> {
+    plain_checks(a.len(), 0, places).or_else(|| fault(a).map(|(number, i)| refused(number, i)))
+}
+
+pub fn reconstruct_answer(a: &[u32], places: usize) -> Expected<u32> {
+    array_checks(a, &[places]).unwrap_or_else(|| Accepted { count: a.len(), written: vec![text_for(a)] })
+}
+
+pub fn right_forest_answer(a: &[u32], first: usize, past: usize) -> Expected<u32> {
+    array_checks(a, &[first, past]).unwrap_or_else(|| {
+        let (first, past) = forest_of_array(a);
+        Accepted { count: a.len(), written: vec![first, past] }
+    })
+}

@@ -1,0 +1,33 @@
+//! The C example, compiled with the header and the library as a C user would, and run.
+use std::path::Path;
+use std::process::Command;
+
+fn run(program: &Path, text: &str) -> (String, Option<i32>) {
+    let output = Command::new(program).arg(text).output().unwrap();
+    (String::from_utf8(output.stdout).unwrap(), output.status.code())
+}
+
+#[test]
+fn runs_of_a_text() {
+    let root = Path::new(env!("CARGO_MANIFEST_DIR")).join("..");
+    let program = Path::new(env!("CARGO_TARGET_TMPDIR")).join("runs");
+    let status = Command::new(std::env::var("CC").unwrap_or("cc".to_string()))
+        .args(["-O2", "-std=c99", "-Wall", "-Wextra", "-pedantic", "-Werror", "-Iinclude", "-o"])
+        .arg(&program)
+        .args(["examples/runs.c", "target/lib/liblyndon.a"])
+        .current_dir(&root)
+        .status()
+        .unwrap();
+    assert!(status.success());
+
+    let (out, code) = run(&program, "mississippi");
+    let want = "4 runs\n\
+        1 to 7, period 3: ississi\n\
+        2 to 3, period 1: ss\n\
+        5 to 6, period 1: ss\n\
+        8 to 9, period 1: pp\n\
+        rising Lyndon array: 1 3 1 1 3 1 1 3 1 1 1\n\
+        falling Lyndon array: 2 1 9 2 1 6 5 1 3 2 1\n";
+    assert_eq!((&out[..], code), (want, Some(0)));
+    assert_eq!(run(&program, ""), ("refused 1 at 0\n".to_string(), Some(1)));
+}

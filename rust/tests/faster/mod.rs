@@ -1,0 +1,224 @@
+//! Other methods for long inputs, by suffix arrays, longest common prefixes and ordered sets. None is the library's.
+#![allow(dead_code)]
+
+use std::collections::BTreeSet;
+
+/// The ranks of the suffixes of a text, by prefix doubling. `letters` are already numbered in the order wanted.
+fn ranks(letters: &[u32]) -> Vec<usize> {
+    let n = letters.len();
+    let mut rank: Vec<usize> = letters.iter().map(|&l| l as usize + 1).collect();
+    let mut order: Vec<usize> = (0..n).collect();
+    let mut step = 0;
+    loop {
+        let key = |i: usize| (rank[i], if step > 0 && i + step < n { rank[i + step] } else { 0 });
+        let mut keyed: Vec<((usize, usize), usize)> = order.iter().map(|&i| (key(i), i)).collect();
+        keyed.sort_unstable();
+        order = keyed.iter().map(|k| k.1).collect();
+        let mut next = vec![0; n];
+        let mut name = 0;
+        for (place, entry) in keyed.iter().enumerate() {
+            if place == 0 || keyed[place - 1].0 != entry.0 {
+                name += 1;
+            }
+            next[entry.1] = name;
+        }
+        rank = next;
+        if name == n {
+            return rank.iter().map(|r| r - 1).collect();
+        }
+        step = if step == 0 { 1 } else { 2 * step };
+    }
+}
+
+/// Letters numbered so that the order asked for is rising.
+fn in_order<L: Ord + Copy>(order: u32, x: &[L]) -> Vec<u32> {
+    let mut letters: Vec<L> = x.to_vec();
+    letters.sort_unstable();
+    letters.dedup();
+    let number = |l: &L| letters.binary_search(l).unwrap() as u32;
+    let last = letters.len() as u32 - 1;
+    x.iter().map(|l| if order == 0 { number(l) } else { last - number(l) }).collect()
+}
+
+/// The Lyndon array: the distance to the next smaller suffix.
+pub fn array<L: Ord + Copy>(order: u32, x: &[L]) -> Vec<u32> {
+    let rank = ranks(&in_order(order, x));
+    let n = x.len();
+    let mut next = vec![n; n];
+    let mut open: Vec<usize> = vec![];
+    for i in 0..n {
+        while open.last().is_some_and(|&j| rank[i] < rank[j]) {
+            next[open.pop().unwrap()] = i;
+        }
+        open.push(i);
+    }
+    (0..n).map(|i| (next[i] - i) as u32).collect()
+}
+
+/// The factors start where a suffix is smaller than all before it.
+pub fn factors(x: &[u8]) -> Vec<u32> {
+    let rank = ranks(&in_order(0, x));
+    let mut least = usize::MAX;
+    let mut starts = vec![];
+    for (i, &r) in rank.iter().enumerate() {
+        if r < least {
+            least = r;
+            starts.push(i as u32);
+        }
+    }
+    starts
+}
+
+/// Longest common prefixes of suffixes: ranks, and a table of least values over the neighbours' common prefixes.
+struct Common {
+    rank: Vec<usize>,
+    least: Vec<Vec<u32>>,
+}
+
+impl Common {
+    fn new(x: &[u8]) -> Common {
+        let n = x.len();
+        let rank = ranks(&in_order(0, x));
+        let mut order = vec![0; n];
+        for (i, &r) in rank.iter().enumerate() {
+            order[r] = i;
+        }
+        let mut neighbours = vec![0u32; n];
+        let mut h = 0usize;
+        for i in 0..n {
+            if rank[i] + 1 == n {
+                h = 0;
+                continue;
+            }
+            let j = order[rank[i] + 1];
+            while i + h < n && j + h < n && x[i + h] == x[j + h] {
+                h += 1;
+            }
+            neighbours[rank[i]] = h as u32;
+            h = h.saturating_sub(1);
+        }
+        let mut least = vec![neighbours];
+        let mut width = 1;
+        while 2 * width <= n {
+            let row = least.last().unwrap();
+            let next = (0..=n - 2 * width).map(|i| row[i].min(row[i + width])).collect();
+            least.push(next);
+            width *= 2;
+        }
+        Common { rank, least }
+    }
+
+    /// How far the suffixes at i and j agree.
+    fn prefix(&self, i: usize, j: usize) -> usize {
+        let (low, high) = (self.rank[i].min(self.rank[j]), self.rank[i].max(self.rank[j]));
+        let level = (high - low).ilog2() as usize;
+        self.least[level][low].min(self.least[level][high - (1 << level)]) as usize
+    }
+}
+
+/// The suffix table and the left forest: the factors of each prefix, from those of the prefix before and one letter more, where a
+/// factor smaller than the next is joined with it.
+pub fn suffix_table_and_left_forest(x: &[u8]) -> (Vec<u32>, Vec<u32>, Vec<u32>) {
+    let common = Common::new(x);
+    let n = x.len();
+    let mut table = vec![];
+    let (mut first, mut past) = (vec![0; n], vec![0; n]);
+    let mut starts: Vec<usize> = vec![];
+    for j in 0..n {
+        starts.push(j);
+        while starts.len() >= 2 {
+            let (a, b) = (starts[starts.len() - 2], starts[starts.len() - 1]);
+            let (u, v) = (b - a, j + 1 - b);
+            let same = common.prefix(a, b).min(u).min(v);
+            let smaller = if same < u && same < v { x[a + same] < x[b + same] } else { u < v };
+            if !smaller {
+                break;
+            }
+            first[b] = a as u32;
+            past[b] = j as u32 + 1;
+            starts.pop();
+        }
+        table.push((j + 1 - starts[starts.len() - 1]) as u32);
+    }
+    for s in starts {
+        first[s] = s as u32;
+        past[s] = s as u32;
+    }
+    (table, first, past)
+}
+
+/// The first fault of an array, with the ends of the open spans in an ordered set.
+pub fn fault(a: &[u32]) -> Option<(u32, usize)> {
+    let n = a.len();
+    if let Some(i) = (0..n).find(|&i| a[i] == 0 || a[i] as usize > n - i) {
+        return Some((if a[i] == 0 { 6 } else { 7 }, i));
+    }
+    let mut ends = BTreeSet::new();
+    for j in 0..n {
+        ends.remove(&j);
+        let end = j + a[j] as usize;
+        if ends.first().is_some_and(|&least| least < end) {
+            return Some((8, j));
+        }
+        ends.insert(end);
+    }
+    None
+}
+
+/// The right forest of a valid array: the innermost open span of each position.
+pub fn right_forest(a: &[u32]) -> (Vec<u32>, Vec<u32>) {
+    let mut open: Vec<usize> = vec![];
+    let (mut first, mut past) = (vec![], vec![]);
+    for j in 0..a.len() {
+        while open.last().is_some_and(|&i| i + a[i] as usize <= j) {
+            open.pop();
+        }
+        first.push(*open.last().unwrap_or(&j) as u32);
+        past.push(if open.is_empty() { j as u32 } else { j as u32 + a[j] });
+        open.push(j);
+    }
+    (first, past)
+}
+
+/// The text of a valid array: depths by sums of differences.
+pub fn text_for(a: &[u32]) -> Vec<u32> {
+    let n = a.len();
+    let mut change = vec![0i64; n + 2];
+    for (i, &l) in a.iter().enumerate() {
+        change[i + 1] += 1;
+        change[i + l as usize] -= 1;
+    }
+    let mut depth = 0;
+    (0..n)
+        .map(|i| {
+            if i > 0 {
+                depth += change[i];
+            }
+            (depth + (n - i) as i64 - a[i] as i64) as u32
+        })
+        .collect()
+}
+
+/// All runs, period by period: stretches in which each letter equals the one p before it; a stretch that a smaller period has too is
+/// not listed again.
+pub fn runs(x: &[u8]) -> Vec<u32> {
+    let n = x.len();
+    let mut found = std::collections::BTreeMap::new();
+    for p in 1..=n / 2 {
+        let mut i = 0;
+        while i + p < n {
+            if x[i] != x[i + p] {
+                i += 1;
+                continue;
+            }
+            let start = i;
+            while i + p < n && x[i] == x[i + p] {
+                i += 1;
+            }
+            if i - start >= p {
+                found.entry((start as u32, (i + p - 1) as u32)).or_insert(p as u32);
+            }
+        }
+    }
+    found.iter().flat_map(|(&(start, last), &p)| [start, last, p]).collect()
+}

@@ -1,0 +1,243 @@
+//! Buffers that end directly before a forbidden page, or start directly behind one: any access past an end faults.
+#![cfg(target_os = "linux")]
+mod common;
+mod definitions;
+mod faster;
+
+use common::Numbers;
+use lyndon::Error;
+use std::ffi::c_void;
+
+const PAGE: usize = 4096;
+const PROT_NONE: i32 = 0;
+const PROT_READ_WRITE: i32 = 3;
+const MAP_PRIVATE_ANONYMOUS: i32 = 0x22;
+
+extern "C" {
+    fn mmap(address: *mut c_void, length: usize, protection: i32, flags: i32, file: i32, offset: i64) -> *mut c_void;
+    fn mprotect(address: *mut c_void, length: usize, protection: i32) -> i32;
+    fn munmap(address: *mut c_void, length: usize) -> i32;
+}
+
+/// Pages for `n` elements between two forbidden ones.
+struct Guarded<T> {
+    pages: *mut u8,
+    mapped: usize,
+    content: *mut T,
+    n: usize,
+}
+
+#[derive(Clone, Copy, PartialEq, Debug)]
+enum Side {
+    /// The last element ends where the forbidden page starts.
+    End,
+    /// The first element starts where the forbidden page ends.
+    Start,
+}
+
+impl<T: Copy> Guarded<T> {
+    fn new(content: &[T], side: Side) -> Guarded<T> {
+        let bytes = std::mem::size_of_val(content);
+        let inner = bytes.div_ceil(PAGE) * PAGE;
+        let mapped = inner + 2 * PAGE;
+        unsafe {
+            let pages = mmap(std::ptr::null_mut(), mapped, PROT_NONE, MAP_PRIVATE_ANONYMOUS, -1, 0).cast::<u8>();
+            assert!(pages as isize != -1);
+            if inner > 0 {
+                assert_eq!(mprotect(pages.add(PAGE).cast(), inner, PROT_READ_WRITE), 0);
+            }
+            let start = match side {
+                Side::End => pages.add(PAGE + inner - bytes),
+                Side::Start => pages.add(PAGE),
+            };
+            let start = start.cast::<T>();
+            std::ptr::copy_nonoverlapping(content.as_ptr(), start, content.len());
+            Guarded { pages, mapped, content: start, n: content.len() }
+        }
+    }
+
+    fn slice(&mut self) -> &mut [T] {
+        unsafe { std::slice::from_raw_parts_mut(self.content, self.n) }
+    }
+}
+
+impl<T> Drop for Guarded<T> {
+    fn drop(&mut self) {
+        unsafe {
+            munmap(self.pages.cast(), self.mapped);
+        }
+    }
+}
+
+fn room(n: usize, side: Side) -> Guarded<u32> {
+    Guarded::new(&vec![0u32; n], side)
+}
+
+/// All calls on a text, every buffer guarded and exactly as long as needed, then each one place short.
+fn check_text(x: &[u8], side: Side) {
+    let n = x.len();
+    let what = format!("guarded, {side:?}, {n} letters");
+    let mut text = Guarded::new(x, side);
+    let wide: Vec<u32> = x.iter().map(|&l| u32::from(l)).collect();
+    let mut letters = Guarded::new(&wide, side);
+    let short = Err(Error { number: if n == 0 { 1 } else { 4 }, position: 0 });
+    let arrays = if n == 0 { vec![vec![], vec![]] } else { vec![faster::array(0, x), faster::array(1, x)] };
+    let full = |count: usize| if n == 0 { Err(Error { number: 1, position: 0 }) } else { Ok(count) };
+
+    for order in [0, 1] {
+        let mut out = room(n, side);
+        let got = common::array8(text.slice(), order, out.slice());
+        common::compare(&what, got, &[out.slice()], full(n), &[Some(&arrays[order as usize])]);
+        let got = common::array32(letters.slice(), order, out.slice());
+        common::compare(&what, got, &[out.slice()], full(n), &[Some(&arrays[order as usize])]);
+    }
+    let mut out = room(n, side);
+    let starts = if n == 0 { vec![] } else { faster::factors(x) };
+    let got = common::factors(text.slice(), out.slice());
+    common::compare(&what, got, &[out.slice()], full(starts.len()), &[Some(&starts)]);
+    let (table, first, past) = if n == 0 { Default::default() } else { faster::suffix_table_and_left_forest(x) };
+    let got = common::suffix_table(text.slice(), out.slice());
+    common::compare(&what, got, &[out.slice()], full(n), &[Some(&table)]);
+    let mut second = room(n, side);
+    let got = common::left_forest(text.slice(), out.slice(), second.slice());
+    common::compare(&what, got, &[out.slice(), second.slice()], full(n), &[Some(&first), Some(&past)]);
+    let (mut work, mut list) = (room(2 * n, side), room(6 * n, side));
+    let runs = faster::runs(x);
+    let got = common::runs(text.slice(), work.slice(), list.slice());
+    common::compare(&what, got, &[work.slice(), list.slice()], full(runs.len() / 3), &[Some(&arrays.concat()), Some(&runs)]);
+    for entries in &arrays {
+        check_array(entries, side);
+    }
+
+    if n > 0 {
+        let mut cut = room(n - 1, side);
+        common::fill(second.slice());
+        for call in 0..6 {
+            let got = match call {
+                0 => common::array8(text.slice(), 0, cut.slice()),
+                1 => common::array32(letters.slice(), 1, cut.slice()),
+                2 => common::factors(text.slice(), cut.slice()),
+                3 => common::suffix_table(text.slice(), cut.slice()),
+                4 => common::left_forest(text.slice(), cut.slice(), second.slice()),
+                _ => common::left_forest(text.slice(), second.slice(), cut.slice()),
+            };
+            common::compare(&what, got, &[cut.slice(), second.slice()], short, &[]);
+        }
+        let mut cut_list = room(6 * n - 1, side);
+        let got = common::runs(text.slice(), work.slice(), cut_list.slice());
+        common::compare(&what, got, &[work.slice(), cut_list.slice()], short, &[]);
+        let mut cut_work = room(2 * n - 1, side);
+        let got = common::runs(text.slice(), cut_work.slice(), list.slice());
+        common::compare(&what, got, &[cut_work.slice(), list.slice()], Err(Error { number: 5, position: 0 }), &[]);
+    }
+}
+
+/// The calls that take an array, valid or not.
+fn check_array(entries: &[u32], side: Side) {
+    let n = entries.len();
+    let what = format!("guarded array, {side:?}, {n} entries");
+    let mut array = Guarded::new(entries, side);
+    let fault = if n == 0 { Some((1, 0)) } else { faster::fault(entries) };
+    let answer = fault.map_or(Ok(n), |(number, i)| Err(Error { number, position: i as u32 }));
+    let written = answer.is_ok().then(|| faster::text_for(entries));
+    let (first, past) = answer.is_ok().then(|| faster::right_forest(entries)).unzip();
+    let (mut out, mut second) = (room(n, side), room(n, side));
+    let got = common::reconstruct(array.slice(), out.slice());
+    common::compare(&what, got, &[out.slice()], answer, &[written.as_deref()]);
+    let got = common::right_forest(array.slice(), out.slice(), second.slice());
+    common::compare(&what, got, &[out.slice(), second.slice()], answer, &[first.as_deref(), past.as_deref()]);
+    if n > 0 {
+        let mut cut = room(n - 1, side);
+        common::fill(second.slice());
+        for call in 0..3 {
+            let got = match call {
+                0 => common::reconstruct(array.slice(), cut.slice()),
+                1 => common::right_forest(array.slice(), cut.slice(), second.slice()),
+                _ => common::right_forest(array.slice(), second.slice(), cut.slice()),
+            };
+            common::compare(&what, got, &[cut.slice(), second.slice()], Err(Error { number: 4, position: 0 }), &[]);
+        }
+    }
+}
+
+/// A program that reads one element past an end is stopped: this test starts itself again to do so.
+#[test]
+fn the_guard_is_real() {
+    use std::os::unix::process::ExitStatusExt;
+    for side in [Side::End, Side::Start] {
+        let name = format!("{side:?}");
+        if std::env::var("READ_PAST").as_deref() == Ok(&name) {
+            let buffer = room(5, side);
+            let past = if side == Side::End { buffer.content.wrapping_add(5) } else { buffer.content.wrapping_sub(1) };
+            let read = unsafe { std::ptr::read_volatile(past) };
+            println!("{read}");
+            std::process::exit(0);
+        }
+        if std::env::var("READ_PAST").is_err() {
+            let mut child = std::process::Command::new(std::env::current_exe().unwrap());
+            let status = child.args(["--exact", "the_guard_is_real"]).env("READ_PAST", &name).output().unwrap().status;
+            assert_eq!(status.signal(), Some(11));
+        }
+    }
+}
+
+#[test]
+fn short_texts() {
+    let mut numbers = Numbers::new(21);
+    for round in 0..300 {
+        let n = numbers.below(20);
+        let x = numbers.text(if round % 2 == 0 { b"ab" } else { b"abcd" }, n);
+        check_text(&x, Side::End);
+        check_text(&x, Side::Start);
+    }
+}
+
+#[test]
+fn families() {
+    for n in [9, 64, 1023, 1024, 4096, 4099] {
+        for (_, x) in common::families(n) {
+            check_text(&x, Side::End);
+            check_text(&x, Side::Start);
+        }
+    }
+}
+
+#[test]
+fn damaged_arrays() {
+    let mut numbers = Numbers::new(22);
+    for _ in 0..1500 {
+        let n = 1 + numbers.below(40);
+        let x = numbers.text(b"ab", n);
+        let mut a = faster::array(0, &x);
+        for _ in 0..numbers.below(3) {
+            let i = numbers.below(n);
+            a[i] = numbers.pick(&[0, 1, n as u32, (n - i) as u32, (n - i) as u32 + 1, u32::MAX, u32::MAX - i as u32]);
+        }
+        check_array(&a, Side::End);
+        check_array(&a, Side::Start);
+    }
+}
+
+#[test]
+fn reader() {
+    let mut numbers = Numbers::new(23);
+    let pieces: [&[u8]; 14] = [b">", b"m", b"m1 x", b"\n", b"\r\n", b"\r", b"A", b"acgt", b"ACGTACGT", b"-", b">", b" ", b"\t", b"\x80"];
+    for round in 0..4000 {
+        let mut input = if round % 8 == 0 { vec![] } else { b">m".to_vec() };
+        for _ in 0..numbers.below(12) {
+            input.extend(numbers.pick(&pieces));
+        }
+        if round % 50 == 0 {
+            let letters = numbers.pick(&[2047, 2048, 2049, 8187, 8188, 8189]);
+            input = [b">m\n".as_slice(), &numbers.text(b"ACGT", letters)].concat();
+        }
+        for side in [Side::End, Side::Start] {
+            let mut lent = Guarded::new(&input, side);
+            for places in [2048, 2047, 0] {
+                let mut letters = Guarded::new(&vec![0u8; places], side);
+                let got = common::read_fasta(lent.slice(), letters.slice());
+                common::compare_all("guarded reader", got, &[letters.slice()], &definitions::read_fasta(&input, places));
+            }
+        }
+    }
+}

@@ -1,0 +1,179 @@
+//! The worked examples of the specification, K1 to K12 again and those that are executed only.
+mod common;
+mod definitions;
+
+use lyndon::{Error, Order, Run};
+
+fn refusal<T>(result: Result<T, Error>) -> (u32, u32) {
+    result.map(|_| ()).map_err(|e| (e.number, e.position)).expect_err("a refusal")
+}
+
+#[test]
+fn k1_to_k5_arrays() {
+    assert_eq!(lyndon::lyndon_array(b"a", Order::Rising).unwrap(), [1]);
+    assert_eq!(lyndon::lyndon_array(b"ba", Order::Rising).unwrap(), [1, 1]);
+    assert_eq!(lyndon::lyndon_array(b"ba", Order::Falling).unwrap(), [2, 1]);
+    assert_eq!(lyndon::lyndon_array(b"abab", Order::Rising).unwrap(), [2, 1, 2, 1]);
+    assert_eq!(lyndon::lyndon_array(b"bab", Order::Falling).unwrap(), [2, 1, 1]);
+    assert_eq!(lyndon::lyndon_array_u32(&[98, 97, 98], Order::Falling).unwrap(), [2, 1, 1]);
+}
+
+#[test]
+fn k6_array_and_factors() {
+    let text = b"abbababaababbaba";
+    assert_eq!(lyndon::lyndon_array(text, Order::Rising).unwrap(), [3, 1, 1, 2, 1, 2, 1, 8, 5, 1, 3, 1, 1, 2, 1, 1]);
+    assert_eq!(lyndon::factorization(text).unwrap(), [0, 3, 5, 7, 15]);
+}
+
+#[test]
+fn k7_suffix_table() {
+    assert_eq!(lyndon::suffix_table(b"babbababbaabb").unwrap(), [1, 1, 2, 3, 1, 2, 1, 2, 5, 1, 1, 3, 4]);
+}
+
+#[test]
+fn k8_right_forest() {
+    let array = lyndon::lyndon_array(b"aabb", Order::Rising).unwrap();
+    let forest = lyndon::right_forest(&array).unwrap();
+    assert_eq!((&forest.first[..], &forest.past[..]), (&[0, 0, 1, 1][..], &[0, 4, 3, 4][..]));
+}
+
+#[test]
+fn k9_left_forest() {
+    let forest = lyndon::left_forest(b"aabb").unwrap();
+    assert_eq!((&forest.first[..], &forest.past[..]), (&[0, 0, 1, 0][..], &[0, 3, 3, 4][..]));
+}
+
+#[test]
+fn k10_to_k12_reconstructed() {
+    assert_eq!(lyndon::reconstruct(&[2, 1, 5, 2, 1, 2, 1, 3, 2, 1]).unwrap(), [8, 9, 3, 6, 7, 4, 5, 0, 1, 2]);
+    assert_eq!(refusal(lyndon::reconstruct(&[2, 2, 1])), (8, 1));
+    assert_eq!(refusal(lyndon::right_forest(&[2, 2, 1])), (8, 1));
+    assert_eq!(lyndon::reconstruct(&[3, 1, 1]).unwrap(), [0, 2, 1]);
+}
+
+#[test]
+fn entries() {
+    assert_eq!(lyndon::reconstruct(&[1, 1]).unwrap(), [1, 0]);
+    assert_eq!(refusal(lyndon::reconstruct(&[1, 2])), (7, 1));
+    assert_eq!(refusal(lyndon::reconstruct(&[1, 0])), (6, 1));
+    assert_eq!(refusal(lyndon::right_forest(&[1, 2])), (7, 1));
+    assert_eq!(refusal(lyndon::right_forest(&[1, 0])), (6, 1));
+    // Position and entry are not added in 32 bits.
+    assert_eq!(refusal(lyndon::reconstruct(&[1, 4_294_967_295])), (7, 1));
+    assert_eq!(refusal(lyndon::right_forest(&[1, 4_294_967_295, 1])), (7, 1));
+}
+
+const LONGEST: usize = 1_048_576;
+
+#[test]
+fn the_longest_text_is_accepted() {
+    let text = vec![b'a'; LONGEST];
+    let letters = vec![5u32; LONGEST];
+    let ones = vec![1u32; LONGEST];
+    let mut out = vec![0; LONGEST];
+    for order in [0, 1] {
+        assert_eq!(common::array8(&text, order, &mut out), Ok(LONGEST));
+        assert!(out == ones);
+        assert_eq!(common::array32(&letters, order, &mut out), Ok(LONGEST));
+        assert!(out == ones);
+    }
+    assert_eq!(common::factors(&text, &mut out), Ok(LONGEST));
+    assert!(out.iter().enumerate().all(|(i, &start)| i == start as usize));
+    assert_eq!(common::suffix_table(&text, &mut out), Ok(LONGEST));
+    assert!(out == ones);
+    let (mut first, mut past) = (vec![0; LONGEST], vec![0; LONGEST]);
+    assert_eq!(common::left_forest(&text, &mut first, &mut past), Ok(LONGEST));
+    assert!(first == past && first.iter().enumerate().all(|(i, &start)| i == start as usize));
+    assert_eq!(common::right_forest(&ones, &mut first, &mut past), Ok(LONGEST));
+    assert!(first == past && first.iter().enumerate().all(|(i, &start)| i == start as usize));
+    assert_eq!(common::reconstruct(&ones, &mut out), Ok(LONGEST));
+    assert!(out.iter().enumerate().all(|(i, &letter)| LONGEST - 1 - i == letter as usize));
+}
+
+#[test]
+fn one_letter_more_is_refused() {
+    let n = LONGEST + 1;
+    let (text, letters, ones) = (vec![b'a'; n], vec![5u32; n], vec![1u32; n]);
+    let long = Err(Error { number: 2, position: 0 });
+    // With room, and with a second fault beside it.
+    for places in [n, 0] {
+        let mut out = vec![0; places];
+        for order in [0, 1, 2] {
+            let got = common::array8(&text, order, &mut out);
+            common::compare("array of bytes", got, &[&out], long, &[]);
+            let got = common::array32(&letters, order, &mut out);
+            common::compare("array of numbers", got, &[&out], long, &[]);
+        }
+        let got = common::factors(&text, &mut out);
+        common::compare("factors", got, &[&out], long, &[]);
+        let got = common::suffix_table(&text, &mut out);
+        common::compare("suffix table", got, &[&out], long, &[]);
+        let got = common::reconstruct(&ones, &mut out);
+        common::compare("reconstruct", got, &[&out], long, &[]);
+        let mut past = vec![0; places];
+        let got = common::left_forest(&text, &mut out, &mut past);
+        common::compare("left forest", got, &[&out, &past], long, &[]);
+        let got = common::right_forest(&ones, &mut out, &mut past);
+        common::compare("right forest", got, &[&out, &past], long, &[]);
+        let (mut work, mut list) = (vec![0; 2 * places], vec![0; 6 * places]);
+        let got = common::runs(&text, &mut work, &mut list);
+        common::compare("runs", got, &[&work, &list], long, &[]);
+    }
+    // The forms that allocate.
+    assert_eq!(refusal(lyndon::lyndon_array(&text, Order::Rising)), (2, 0));
+    assert_eq!(refusal(lyndon::lyndon_array_u32(&letters, Order::Falling)), (2, 0));
+    assert_eq!(refusal(lyndon::factorization(&text)), (2, 0));
+    assert_eq!(refusal(lyndon::suffix_table(&text)), (2, 0));
+    assert_eq!(refusal(lyndon::left_forest(&text)), (2, 0));
+    assert_eq!(refusal(lyndon::right_forest(&ones)), (2, 0));
+    assert_eq!(refusal(lyndon::reconstruct(&ones)), (2, 0));
+    assert_eq!(refusal(lyndon::runs(&text)), (2, 0));
+}
+
+#[test]
+fn a_list_of_six_places_a_letter() {
+    let text = vec![b'a'; LONGEST];
+    let (mut work, mut list) = (vec![0; 2 * LONGEST], vec![0; 6 * LONGEST]);
+    let got = common::runs(&text, &mut work, &mut list);
+    let (ones, run) = (vec![1u32; 2 * LONGEST], [0, LONGEST as u32 - 1, 1]);
+    common::compare("runs", got, &[&work, &list], Ok(1), &[Some(&ones), Some(&run)]);
+    list.pop();
+    let got = common::runs(&text, &mut work, &mut list);
+    common::compare("runs, list short", got, &[&work, &list], Err(Error { number: 4, position: 0 }), &[]);
+    // A short work buffer is found after a short list.
+    work.pop();
+    let got = common::runs(&text, &mut work, &mut list);
+    common::compare("runs, both short", got, &[&work, &list], Err(Error { number: 4, position: 0 }), &[]);
+    list.push(0);
+    let got = common::runs(&text, &mut work, &mut list);
+    common::compare("runs, work short", got, &[&work, &list], Err(Error { number: 5, position: 0 }), &[]);
+}
+
+#[test]
+fn short_runs() {
+    assert_eq!(lyndon::runs(b"aaaa").unwrap(), [Run { start: 0, last: 3, period: 1 }]);
+    assert_eq!(lyndon::runs(b"a").unwrap(), []);
+    assert_eq!(lyndon::runs(b"aab").unwrap(), [Run { start: 0, last: 1, period: 1 }]);
+}
+
+#[test]
+fn the_listing_of_the_specification() {
+    let want = b"m1\t0\t2\tp1\nm1\t0\t6\tp3\nm1\t3\t5\tp1\n";
+    let input = b">m1\naabaab\n";
+    assert_eq!(definitions::listing(input, definitions::runs), want);
+    if let Some(program) = common::lister::program() {
+        assert_eq!(common::lister::run(&program, input), want);
+    }
+}
+
+#[test]
+fn every_refusal_has_a_sentence() {
+    let sentences: Vec<String> = (1..=15).map(|number| Error { number, position: 7 }.to_string()).collect();
+    for (i, sentence) in sentences.iter().enumerate() {
+        assert!(sentence.ends_with(&format!("(refusal {})", i + 1)));
+        assert_eq!(sentences.iter().filter(|s| s[..20] == sentence[..20] && *s == sentence).count(), 1);
+    }
+    for number in [6, 7, 8, 10, 11, 12, 13, 14] {
+        assert!(sentences[number - 1].contains('7'));
+    }
+}
