@@ -1,5 +1,6 @@
 pub mod Letters
 pub mod Word
+pub mod Lyndon
 pub mod Position
 pub mod SpanLyndon
 pub mod SuffixOrder
@@ -30,3 +31,4 @@ pub mod ValidText
 pub mod ArrayValid
 pub mod ArrayFactors
 pub mod ArrayForest
+pub mod Existence
