@@ -12,6 +12,7 @@ pub mod Tabulate
 pub mod Factorization
 pub mod Unique
 pub mod ForestUnique
+pub mod ForestPositions
 pub mod Runs
 pub mod RunRenaming
 pub mod Different
