@@ -1,3 +1,4 @@
+pub mod Numbers
 pub mod Letters
 pub mod Word
 pub mod Lyndon

@@ -10,6 +10,7 @@ use native.Mathlib.Decide.{decLt, ℕ-discrete}
 use lib.ListN.{length, getD}
 use lib.Seq.{ext-getD}
 use Rattle.words.specs.Letters.{Letters, Smaller, Comparison, below, same, above, Means}
+use Rattle.words.specs.Laws.Numbers.{below-suc}
 use Rattle.words.specs.Laws.Letters.{Compared, compared-irrefutable}
 use Rattle.words.specs.Laws.Position.{Agree, SpanLyndon}
 use Rattle.words.specs.Laws.SuffixOrder.{SuffixLess, ends, parts, NextSmaller, agree-sym}
@@ -99,11 +100,7 @@ module _ {A : Type 0} (O : Letters A) (x : ℕ → A) (n : ℕ) (compared : AllC
 pub all-irrefutable : (P : ℕ → Type 0) (m : ℕ) → ((k : ℕ) → k < m → ¬ ¬ P k) → ¬ ¬ ((k : ℕ) → k < m → P k)
 all-irrefutable P zero h never = never (λ k l. absurd (omega arith))
 all-irrefutable P (suc m) h never =
-    all-irrefutable P m (λ k l. h k (omega arith)) (λ q. h m (omega arith) (λ p. never (λ k l. at q p k l (decLt k m))))
-  where
-    at : ((k : ℕ) → k < m → P k) → P m → (k : ℕ) → k < suc m → Dec (k < m) → P k
-    at q p k l (yes r) = q k r
-    at q p k l (no r) = let t : m ≡ k = omega (arith, r) in subst P t p
+    all-irrefutable P m (λ k l. h k (omega arith)) (λ q. h m (omega arith) (λ p. never (below-suc P m q p)))
 
 -- That all letters of a text are compared cannot be refuted.
 pub all-compared-irrefutable : {A : Type 0} (O : Letters A) (x : ℕ → A) (n : ℕ) → ¬ ¬ AllCompared O x n
