@@ -10,8 +10,8 @@ use native.Mathlib.Omega.{arith}
 use native.Mathlib.Decide.{ℕ-discrete}
 use lib.ListN.{length, getElem?}
 use lib.Dec.{T, leb, T-not, not-T, leb→le, le→leb}
-use Rattle.words.specs.Equality.{DecidedEquality}
-use Rattle.words.specs.Runs.{SameLetter, HasPeriod, Run, Entry, Earlier, Sorted, IsRun, IsRunList}
+use Rattle.words.specs.Equality.{DecidedEquality, decided-number-equality}
+use Rattle.words.specs.Runs.{SameLetter, HasPeriod, Run, Entry, Earlier, Sorted, IsRun, IsRunList, numbers}
 use Rattle.words.specs.Compute.Search.{firstFrom, LeastFrom, FirstFrom, firstFrom-holds}
 use Rattle.words.specs.Laws.Numbers.{least-unique}
 use Rattle.words.specs.Laws.Runs.{run-period-unique}
@@ -75,6 +75,12 @@ runsFrom E x s = listFrom (entryAt E x s) s (length x - s)
 -- All runs of x, by start and then by last position.
 abbrev pub runsOf : {A : Type 0} → DecidedEquality A → List A → List Entry
 runsOf E x = listFrom (runsFrom E x) 0 (length x)
+
+-- The runs of `aaaa`, `a` and `aabaab` (document 01, "Worked by hand" and "The FASTA reader and the repeat lister"). 97 is a, 98 is b.
+checked : (numbers (runsOf decided-number-equality (97 ∷ 97 ∷ 97 ∷ 97 ∷ [])) ≡ 0 ∷ 3 ∷ 1 ∷ [])
+    × (numbers (runsOf decided-number-equality (97 ∷ [])) ≡ [])
+    × (numbers (runsOf decided-number-equality (97 ∷ 97 ∷ 98 ∷ 97 ∷ 97 ∷ 98 ∷ [])) ≡ 0 ∷ 1 ∷ 1 ∷ 0 ∷ 5 ∷ 3 ∷ 3 ∷ 4 ∷ 1 ∷ [])
+checked = (refl, refl, refl)
 
 pub allFrom-holds : (f : ℕ → Bool) (i d : ℕ) → T (allFrom f i d) ↔ ((k : ℕ) → i ≤ k → k < i + d → T (f k))
 allFrom-holds f i zero = (λ t k h l. absurd (omega arith), λ g. tt)

@@ -65,7 +65,8 @@ module _ {A : Type 0} (O : Letters A) (x : ℕ → A) (n : ℕ) where
   pub lyndon-next : (i e : ℕ) → SpanLyndon O x i e → e ≤ n → SuffixLess O x n e i → NextSmaller O x n i e
   lyndon-next i e w h d = record { after = w .non-empty; inside = h; drops = d; between = lyndon-below i e w h }
 
-  -- u = x[i..e) a Lyndon word, v = x[e..f) up to the next smaller suffix. If u is smaller than v, the suffix at i is smaller than that at e.
+  -- u = x[i..e), a Lyndon word or not, and v = x[e..f) up to the next smaller suffix. If u is smaller than v, the suffix at i is smaller
+  -- than that at e.
   pub less-suffix : (i e f : ℕ) → i < e → NextSmaller O x n e f → SpanLess O x i e e f → SuffixLess O x n i e
   less-suffix i e f l m (differs d p q g s) = parts d (omega (arith, m .inside)) (omega (arith, m .inside)) g s
   less-suffix i e f l m (shorter d p q g) =
@@ -123,7 +124,7 @@ module _ {A : Type 0} (O : Letters A) (x : ℕ → A) (n : ℕ) where
           (subst (λ (c : A). Smaller O (x (i + j)) c) (sym last)
           (subst (λ (c : A). Smaller O c (x (e + d))) (sym (lw .agree j m ∙ last-t)) s)))
 
-  -- And only then.
+  -- And only then, where u is a Lyndon word.
   pub suffix-less : (i e f : ℕ) → SpanLyndon O x i e → NextSmaller O x n e f → SuffixLess O x n i e → SpanLess O x i e e f
   suffix-less i e f w m (ends d a b g) = absurd (omega (arith, w .non-empty))
   suffix-less i e f w m (parts d a b g s) = go (decLt (i + d) e) (decLt (e + d) f) (decLt (e + (e - i)) f)
