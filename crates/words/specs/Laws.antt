@@ -13,6 +13,7 @@ pub mod Tabulate
 pub mod Factorization
 pub mod Unique
 pub mod ForestUnique
+pub mod StandardFactorization
 pub mod ForestPositions
 pub mod Runs
 pub mod RunRenaming
