@@ -9,7 +9,7 @@ use native.Mathlib.Omega.{arith}
 use native.Mathlib.Decide.{decLt, ℕ-discrete}
 use lib.ListN.{length, getD}
 use lib.Seq.{ext-getD}
-use Rattle.words.specs.Letters.{Letters, Smaller, Comparison, below, same, above, Means}
+use Rattle.words.specs.Letters.{Letters, Smaller, Comparison, below, same, above, Means, Decided}
 use Rattle.words.specs.Laws.Numbers.{below-suc}
 use Rattle.words.specs.Laws.Letters.{Compared, compared-irrefutable}
 use Rattle.words.specs.Laws.Position.{Agree, SpanLyndon}
@@ -19,6 +19,10 @@ use Rattle.words.specs.Laws.NextSmaller.{empty-suffix-less, next-lyndon,
 -- The letters at any two positions below n are compared.
 abbrev pub AllCompared : {A : Type 0} → Letters A → (ℕ → A) → ℕ → Type 0
 AllCompared O x n = (i j : ℕ) → i < n → j < n → Compared O (x i) (x j)
+
+-- Decided letters are compared at all positions.
+pub decided-compared : {A : Type 0} {O : Letters A} (D : Decided O) (x : ℕ → A) (n : ℕ) → AllCompared O x n
+decided-compared D x n i j p q = (D .compare (x i) (x j), D .right (x i) (x j))
 
 module _ {A : Type 0} (O : Letters A) (x : ℕ → A) (n : ℕ) (compared : AllCompared O x n) where
   suffix-compare-from : (i j fuel d : ℕ) → i + d ≤ n → j + d ≤ n → ¬ (i ≡ j) → n ≤ fuel + d → Agree x i j d →

@@ -21,6 +21,7 @@ use Rattle.words.specs.CutTree.{IsForest}
 use Rattle.words.specs.RightForest.{IsRightForest}
 use Rattle.words.specs.LeftForest.{IsLeftForest}
 use Rattle.words.specs.ArrayForest.{forestFirst, forestPast}
+use Rattle.words.specs.ArrayFactors.{factorStarts}
 use Rattle.words.specs.Compute.LyndonArray.{greatest-array}
 use Rattle.words.specs.Compute.SuffixTable.{least-table}
 use Rattle.words.specs.Compute.Forest.{forestOf-holds, greatest-left-cuts}
@@ -30,7 +31,7 @@ use Rattle.words.specs.Laws.SpanLyndon.{letters, lyndon-span, span-lyndo
 use Rattle.words.specs.Laws.SuffixOrder.{NextSmaller}
 use Rattle.words.specs.Laws.NextSmaller.{next-lyndon, lyndon-before-next}
 use Rattle.words.specs.Laws.Compared.{AllCompared, next-exists, all-compared-irrefutable}
-use Rattle.words.specs.Laws.ArrayFactors.{factorStarts, array-factorization}
+use Rattle.words.specs.Laws.ArrayFactors.{array-factorization}
 use Rattle.words.specs.Laws.ArrayForest.{array-forest}
 
 -- Where the letters of a text are compared, it is decided whether a span of it is a Lyndon word: one is, if the text cut off at its end has

@@ -10,12 +10,13 @@ use lib.ListN.{length, getD}
 use Rattle.words.specs.Letters.{Letters, Decided}
 use Rattle.words.specs.CutTree.{CutTree, letter, cut, Recorded, Tree}
 use Rattle.words.specs.LeftForest.{LeftCut, IsLeftForest}
-use Rattle.words.specs.Compute.Factorization.{factorizationOf, factorizationOf-holds, decided-compared}
+use Rattle.words.specs.Compute.Factorization.{factorizationOf, factorizationOf-holds}
 use Rattle.words.specs.Compute.Forest.{leftCutAt, greatest-left-cuts}
 use Rattle.words.specs.Compute.Lyndon.{lyndon-test}
 use Rattle.words.specs.Laws.Position.{SpanLyndon}
 use Rattle.words.specs.Laws.SpanLyndon.{letters, lyndon-span, span-lyndon}
 use Rattle.words.specs.Laws.NextSmaller.{next-lyndon}
+use Rattle.words.specs.Laws.Compared.{decided-compared}
 use Rattle.words.specs.Laws.FactorChain.{factorization-chain}
 use Rattle.words.specs.Laws.LowestSuffix.{FactorSpan, lowest-first, chain-factor}
 use Rattle.words.specs.Laws.LongestEnding.{LongestEnding, lyndon-overlap, ending-inside, lowest-reached}

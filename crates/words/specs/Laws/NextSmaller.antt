@@ -7,15 +7,15 @@ use native.Mathlib.Omega.{arith}
 use native.Mathlib.Decide.{decLt, ℕ-discrete}
 use Rattle.words.specs.Letters.{Letters, Smaller, Comparison, below, same, above, Means}
 use Rattle.words.specs.Laws.Letters.{smaller-asym, smaller-trans, Compared}
-use Rattle.words.specs.Laws.Position.{Agree, BelowWithin, SpanLyndon, SpanLess, differs, shorter}
-use Rattle.words.specs.Laws.SuffixOrder.{SuffixLess, ends, parts, NextSmaller, agree-sym, agree-trans, agree-less, agree-shift, agree-join, suffix-irrefl, suffix-trans, suffix-asym, below-suffix, suffix-cancel, suffix-prepend}
+use Rattle.words.specs.Laws.Position.{Agree, BelowFrom, BelowWithin, SpanLyndon, SpanLess, differs, shorter}
+use Rattle.words.specs.Laws.SuffixOrder.{SuffixLess, ends, parts, NextSmaller, earlier-difference, agree-sym, agree-trans, agree-less, agree-shift, agree-join, suffix-irrefl, suffix-trans, suffix-asym, below-suffix, suffix-cancel, suffix-prepend}
 
 module _ {A : Type 0} (O : Letters A) (x : ℕ → A) (n : ℕ) where
   -- The empty suffix is the smallest one.
   pub empty-suffix-less : (i : ℕ) → i < n → SuffixLess O x n n i
   empty-suffix-less i l = ends 0 (omega arith) (omega arith) (λ k h. absurd (omega arith))
 
-  lyndon-below : (i e : ℕ) → SpanLyndon O x i e → e ≤ n → (k : ℕ) → i < k → k < e → SuffixLess O x n i k
+  pub lyndon-below : (i e : ℕ) → SpanLyndon O x i e → e ≤ n → (k : ℕ) → i < k → k < e → SuffixLess O x n i k
   lyndon-below i e w h k p q = below-suffix O x n i k e (omega arith) h (w .below k p q)
 
   -- The span up to the next smaller suffix is a Lyndon word.
@@ -153,45 +153,18 @@ module _ {A : Type 0} (O : Letters A) (x : ℕ → A) (n : ℕ) where
       go (no p) q (no r) = absurd (never (omega (arith, p, r, w .non-empty)) (omega (arith, r)))
       go (yes p) (no q) r = absurd (never (omega (arith, q)) (omega (arith, p, q)))
 
-  below-longer : (i j e f : ℕ) → e ≤ f → BelowWithin O x i j e → BelowWithin O x i j f
+  pub below-longer : (i j e f : ℕ) → e ≤ f → BelowWithin O x i j e → BelowWithin O x i j f
   below-longer i j e f h w =
       record { offset = w .offset; inside = omega (arith, w .inside); agree = w .agree; smaller = w .smaller }
 
+  abbrev within-from : (i j e : ℕ) → BelowWithin O x i j e → BelowFrom O x i j
+  within-from i j e w = record { offset = w .offset; agree = w .agree; smaller = w .smaller }
+
   -- Below a span, and that below another: the earlier of the two differences decides.
-  pub below-trans : (i e k f : ℕ) → e ≤ k → BelowWithin O x i e f → BelowWithin O x e k f → BelowWithin O x i k f
-  below-trans i e k f h p q = go (decLt c d) (decLt d c)
-    where
-      c : ℕ
-      c = p .offset
-
-      d : ℕ
-      d = q .offset
-
-      go : Dec (c < d) → Dec (d < c) → BelowWithin O x i k f
-      go (yes l) m =
-          record {
-            offset = c;
-            inside = omega (arith, q .inside);
-            agree = agree-trans x i e k c (p .agree) (agree-less x e k d c (q .agree) (omega arith));
-            smaller = subst (λ (z : A). Smaller O (x (i + c)) z) (q .agree c l) (p .smaller);
-          }
-      go (no l) (yes m) =
-          record {
-            offset = d;
-            inside = q .inside;
-            agree = agree-trans x i e k d (agree-less x i e c d (p .agree) (omega arith)) (q .agree);
-            smaller = subst (λ (z : A). Smaller O z (x (k + d))) (sym (p .agree d m)) (q .smaller);
-          }
-      go (no l) (no m) =
-          let t : c ≡ d = omega (arith, l, m) in
-          record {
-            offset = d;
-            inside = q .inside;
-            agree = agree-trans x i e k d (agree-less x i e c d (p .agree) (omega arith)) (q .agree);
-            smaller =
-                smaller-trans O (x (i + d)) (x (e + d)) (x (k + d)) (subst (λ (z : ℕ). Smaller O (x (i + z)) (x (e + z))) t (p .smaller))
-                (q .smaller);
-          }
+  pub below-trans : (i e k f : ℕ) → BelowWithin O x i e f → BelowWithin O x e k f → BelowWithin O x i k f
+  below-trans i e k f p q =
+      let w = earlier-difference O x i e k (within-from i e f p) (within-from e k f q) in
+      record { offset = w .0 .offset; inside = omega (arith, w .1, q .inside); agree = w .0 .agree; smaller = w .0 .smaller }
 
   -- A smaller span that is followed by a greater Lyndon word is below it by a letter inside.
   less-below : (i e f : ℕ) → i < e → SpanLyndon O x e f → SpanLess O x i e e f → BelowWithin O x i e f
@@ -218,7 +191,7 @@ module _ {A : Type 0} (O : Letters A) (x : ℕ → A) (n : ℕ) where
 
       go : (k : ℕ) → i < k → k < f → Dec (k < e) → Dec (e < k) → BelowWithin O x i k f
       go k p q (yes l) m = below-longer i k e f (omega (arith, v .non-empty)) (u .below k p l)
-      go k p q (no l) (yes m) = below-trans i e k f (omega arith) seam (v .below k m q)
+      go k p q (no l) (yes m) = below-trans i e k f seam (v .below k m q)
       go k p q (no l) (no m) =
           let t : e ≡ k = omega (arith, l, m) in
           subst (λ (z : ℕ). BelowWithin O x i z f) t seam

@@ -8,6 +8,12 @@ use Rattle.words.specs.Letters.{Letters, Smaller}
 abbrev pub Agree : {A : Type 0} → (ℕ → A) → ℕ → ℕ → ℕ → Type 0
 Agree x i j d = (k : ℕ) → k < d → x (i + k) ≡ x (j + k)
 
+-- What stands at i in a sequence without end is below what stands at j.
+pub record BelowFrom {A : Type 0} (O : Letters A) (x : ℕ → A) (i j : ℕ) : Type 0 where
+  pub offset : ℕ
+  pub agree : Agree x i j offset
+  pub smaller : Smaller O (x (i + offset)) (x (j + offset))
+
 -- What stands at i is below what stands at j: they agree up to an offset inside the span that ends at e, and there i has the smaller letter.
 pub record BelowWithin {A : Type 0} (O : Letters A) (x : ℕ → A) (i j e : ℕ) : Type 0 where
   pub offset : ℕ

@@ -10,11 +10,11 @@ use lib.ListN.{length}
 use Rattle.words.specs.Letters.{Letters, Decided}
 use Rattle.words.specs.Word.{span, Less}
 use Rattle.words.specs.RightForest.{RightCut}
-use Rattle.words.specs.Compute.Factorization.{decided-compared}
 use Rattle.words.specs.Laws.Position.{BelowWithin, SpanLyndon, SpanLess, differs, shorter}
 use Rattle.words.specs.Laws.SpanLyndon.{letters, less-span, span-less, lyndon-span, span-lyndon}
-use Rattle.words.specs.Laws.SuffixOrder.{SuffixLess, ends, parts, suffix-trans, suffix-asym, below-suffix}
-use Rattle.words.specs.Laws.Compared.{AllCompared, suffix-compare, all-compared-irrefutable}
+use Rattle.words.specs.Laws.SuffixOrder.{SuffixLess, ends, parts, suffix-trans, suffix-asym}
+use Rattle.words.specs.Laws.NextSmaller.{lyndon-below}
+use Rattle.words.specs.Laws.Compared.{AllCompared, decided-compared, suffix-compare, all-compared-irrefutable}
 
 -- The span from a to b is cut before c as u·v, v the smallest of its proper non-empty suffixes (document 002, "Lyndon trees (1)").
 pub record SmallestSuffix {A : Type 0} (O : Letters A) (x : List A) (a c b : ℕ) : Type 0 where
@@ -42,7 +42,7 @@ smaller-lyndon O x b i l h = record { non-empty = l; below = λ j p q. within j 
 module _ {A : Type 0} (O : Letters A) (x : ℕ → A) (a c b : ℕ) (compared : AllCompared O x b) (lyndon : SpanLyndon O x c b)
     (longest : (k : ℕ) → a < k → k < c → ¬ SpanLyndon O x k b) where
   longest-behind : (j : ℕ) → c < j → j < b → SuffixLess O x b c j
-  longest-behind j h i = below-suffix O x b c j b (omega arith) (omega arith) (lyndon .below j h i)
+  longest-behind = lyndon-below O x b c b lyndon (omega arith)
 
   -- The longest proper Lyndon suffix is smaller than those before it: the last of these that was not greater would be a longer Lyndon word.
   longest-before : (fuel k : ℕ) → a < k → k < c → c ≤ k + fuel → SuffixLess O x b c k
@@ -119,7 +119,7 @@ module _ {A : Type 0} (O : Letters A) (z : A) (x : List A) (a c b : ℕ) (f : b 
             let l : k < b = omega (arith, s .inside) in
             suffix-asym O (letters z x) b c k
             (less-suffixes c k (omega (arith, s .inside)) (s .smallest k p l (λ e. omega arith)))
-            (below-suffix O (letters z x) b k c b (omega arith) (omega arith) (lyndon-span O z x k b f w .below c q (s .inside)));
+            (lyndon-below O (letters z x) b k b (lyndon-span O z x k b f w) (omega arith) c q (s .inside));
       }
 
 -- The cut of the standard factorization is that of the right forest's rule.
