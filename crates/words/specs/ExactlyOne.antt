@@ -2,7 +2,7 @@
 -- suffix table, right forest, left forest and run list, and every array one verdict. For all ordered letters there is at most one of each,
 -- and that there is none is refuted.
 -- Assumes nothing.
-use mathlib.Core.Path.{_≡_, ap, ap₂}
+use mathlib.Core.Path.{_≡_}
 use mathlib.Core.List.{List}
 use Prim.Native.Nat.{ℕ}
 use Rattle.words.specs.Letters.{Letters, Decided}
@@ -12,13 +12,13 @@ use Rattle.words.specs.Factorization.{IsFactorization}
 use Rattle.words.specs.SuffixTable.{IsSuffixTable}
 use Rattle.words.specs.RightForest.{IsRightForest}
 use Rattle.words.specs.LeftForest.{IsLeftForest}
-use Rattle.words.specs.Runs.{Entry, IsRunList}
+use Rattle.words.specs.Runs.{IsRunList}
 use Rattle.words.specs.Compute.LyndonArray.{arrayOf, arrayOf-holds}
 use Rattle.words.specs.Compute.Factorization.{factorizationOf, factorizationOf-holds}
 use Rattle.words.specs.Compute.SuffixTable.{suffixTableOf, suffixTableOf-holds}
 use Rattle.words.specs.Compute.Forest.{rightFirstOf, rightPastOf, leftFirstOf, leftPastOf, rightForestOf-holds, leftForestOf-holds}
 use Rattle.words.specs.Compute.Runs.{runsOf, runsOf-holds}
-use Rattle.words.specs.Compute.ValidArray.{Verdict, HasVerdict, checkArray, checkArray-holds}
+use Rattle.words.specs.Compute.ValidArray.{HasVerdict, checkArray, checkArray-holds}
 use Rattle.words.specs.Laws.Lyndon.{LyndonTest}
 use Rattle.words.specs.Laws.Existence.{test-irrefutable, tested-array, tested-factorization, tested-suffix-table, tested-right-forest, tested-left-forest}
 use Rattle.words.specs.Laws.Unique.{array-unique, suffix-table-unique}

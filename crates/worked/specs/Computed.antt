@@ -1,6 +1,6 @@
 -- What an example comes to by computation, and that it then holds: each form that computes satisfies its definition.
 -- Assumes nothing.
-use mathlib.Core.Path.{_≡_, refl, subst, ap}
+use mathlib.Core.Path.{_≡_, refl, subst}
 use mathlib.Core.List.{List, [], _∷_}
 use Prim.Native.Nat.{ℕ}
 use Rattle.words.specs.Letters.{rising, orderOf, decided-rising, decided-order}
@@ -14,7 +14,7 @@ use Rattle.words.specs.Compute.LyndonArray.{arrayOf, arrayOf-holds}
 use Rattle.words.specs.Compute.Factorization.{factorizationOf, factorizationOf-holds}
 use Rattle.words.specs.Compute.SuffixTable.{suffixTableOf, suffixTableOf-holds}
 use Rattle.words.specs.Compute.Forest.{rightFirstOf, rightPastOf, leftFirstOf, leftPastOf, rightForestOf-holds, leftForestOf-holds}
-use Rattle.words.specs.Compute.ValidArray.{Verdict, fits, fault, HasVerdict, checkArray, checkArray-holds}
+use Rattle.words.specs.Compute.ValidArray.{fits, fault, HasVerdict, checkArray, checkArray-holds}
 use Rattle.answer.specs.Faults.{reasonFor}
 use Rattle.answer.specs.Answers.{refusedFor, number}
 use Rattle.worked.specs.Example.{Example, array, factors, suffix-table, right-forest, left-forest, text, refused, Holds, AllHold}

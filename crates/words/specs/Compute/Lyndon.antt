@@ -4,7 +4,6 @@ use mathlib.Core.Path.{_≡_, refl}
 use mathlib.Core.Logic.{_↔_}
 use mathlib.Core.Bool.{Bool, true, false}
 use mathlib.Core.List.{List, [], _∷_, _++_, nil≢cons, cons≢nil, tail-eq-of-cons-eq}
-use Prim.Native.Nat.{ℕ}
 use lib.Dec.{T}
 use Rattle.words.specs.Letters.{Letters, Decided}
 use Rattle.words.specs.Word.{Less, span}

@@ -5,7 +5,7 @@ use mathlib.Core.List.{List}
 use Prim.Native.Nat.{ℕ, suc, _+_, _-_, _<_}
 use native.Mathlib.Omega.{arith}
 use native.Mathlib.Numerals.{add-one}
-use lib.ListN.{length, getD}
+use lib.ListN.{length}
 use lib.Dec.{T}
 use Rattle.words.specs.Letters.{Letters, Decided}
 use Rattle.words.specs.Word.{span}

@@ -12,7 +12,7 @@ use lib.ListN.{length, getElem?}
 use lib.Dec.{T, leb, T-not, not-T, leb→le, le→leb}
 use Rattle.words.specs.Equality.{DecidedEquality, decided-number-equality}
 use Rattle.words.specs.Runs.{SameLetter, HasPeriod, Run, Entry, Earlier, Sorted, IsRun, IsRunList, numbers}
-use Rattle.words.specs.Compute.Search.{firstFrom, LeastFrom, FirstFrom, firstFrom-holds}
+use Rattle.words.specs.Compute.Search.{firstFrom, FirstFrom, firstFrom-holds}
 use Rattle.words.specs.Laws.Numbers.{least-unique}
 use Rattle.words.specs.Laws.Runs.{run-period-unique}
 

@@ -4,7 +4,7 @@ use mathlib.Core.Bool.{Bool}
 use mathlib.Core.List.{List}
 use Prim.Native.Nat.{ℕ, suc, _-_, _<_}
 use native.Mathlib.Omega.{arith}
-use lib.ListN.{length, getD}
+use lib.ListN.{length}
 use Rattle.words.specs.Letters.{Letters, Decided}
 use Rattle.words.specs.Word.{span}
 use Rattle.words.specs.SuffixTable.{LongestTo, IsSuffixTable}

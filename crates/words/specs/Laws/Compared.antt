@@ -1,15 +1,15 @@
 -- Where the letters of a text are compared, suffixes are compared and every position has its next smaller suffix. That finitely many
 -- letters are compared cannot be refuted, so what speaks of numbers alone holds without it.
 -- Assumes nothing.
-use mathlib.Core.Path.{_≡_, refl, sym, ap, subst, _∙_}
+use mathlib.Core.Path.{_≡_, ap, subst}
 use mathlib.Core.Logic.{_⊎_, inl, inr}
 use mathlib.Core.List.{List}
-use Prim.Native.Nat.{ℕ, zero, suc, _+_, _-_, _<_, _≤_}
+use Prim.Native.Nat.{ℕ, zero, suc, _+_, _<_, _≤_}
 use native.Mathlib.Omega.{arith}
 use native.Mathlib.Decide.{decLt, ℕ-discrete}
 use lib.ListN.{length, getD}
 use lib.Seq.{ext-getD}
-use Rattle.words.specs.Letters.{Letters, Smaller, Comparison, below, same, above, Means, Decided}
+use Rattle.words.specs.Letters.{Letters, Comparison, below, same, above, Means, Decided}
 use Rattle.words.specs.Laws.Numbers.{below-suc}
 use Rattle.words.specs.Laws.Letters.{Compared, compared-irrefutable}
 use Rattle.words.specs.Laws.Position.{Agree, SpanLyndon}

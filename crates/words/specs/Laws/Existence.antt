@@ -1,11 +1,11 @@
 -- Where the letters of a text are compared, its Lyndon array, factorization, suffix table and forests exist. That they are compared cannot
 -- be refuted; so for all ordered letters it cannot be refuted that these lists exist.
 -- Assumes nothing.
-use mathlib.Core.Path.{_≡_, refl, sym, ap, subst, _∙_}
+use mathlib.Core.Path.{_≡_, ap, subst, _∙_}
 use mathlib.Core.Logic.{_↔_}
 use mathlib.Core.Bool.{Bool, true, false}
 use mathlib.Core.List.{List, [], _∷_}
-use Prim.Native.Nat.{ℕ, suc, _<_, _≤_}
+use Prim.Native.Nat.{ℕ, _<_, _≤_}
 use native.Mathlib.Omega.{arith}
 use native.Mathlib.Decide.{decLt, decLe}
 use lib.Dec.{T}
@@ -17,7 +17,6 @@ use Rattle.words.specs.Lyndon.{Lyndon}
 use Rattle.words.specs.LyndonArray.{IsLyndonArray}
 use Rattle.words.specs.Factorization.{IsFactorization}
 use Rattle.words.specs.SuffixTable.{IsSuffixTable}
-use Rattle.words.specs.CutTree.{IsForest}
 use Rattle.words.specs.RightForest.{IsRightForest}
 use Rattle.words.specs.LeftForest.{IsLeftForest}
 use Rattle.words.specs.ArrayForest.{forestFirst, forestPast}

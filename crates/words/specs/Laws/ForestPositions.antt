@@ -1,15 +1,15 @@
 -- A forest gives each position of its text FIRST and PAST exactly once: from left to right, the starts of the factors and the cuts of their
 -- trees are 0, 1, .., n − 1.
 -- Assumes nothing.
-use mathlib.Core.Path.{_≡_, refl, sym, ap, _∙_}
+use mathlib.Core.Path.{_≡_}
 use mathlib.Core.List.{List, [], _∷_, _++_}
-use Prim.Native.Nat.{ℕ, zero, suc, _+_, _-_, _<_, _≤_}
+use Prim.Native.Nat.{ℕ, suc, _+_, _-_, _<_, _≤_}
 use native.Mathlib.Omega.{arith}
 use lib.ListN.{length, getD}
 use Rattle.words.specs.Letters.{Letters}
-use Rattle.words.specs.CutTree.{CutTree, cuts, Tree, IsForest}
-use Rattle.words.specs.RightForest.{RightCut, IsRightForest}
-use Rattle.words.specs.LeftForest.{LeftCut, IsLeftForest}
+use Rattle.words.specs.CutTree.{cuts, Tree, IsForest}
+use Rattle.words.specs.RightForest.{IsRightForest}
+use Rattle.words.specs.LeftForest.{IsLeftForest}
 use Rattle.words.specs.Tabulate.{tabulate}
 use Rattle.words.specs.Laws.Tabulate.{tabulate-append}
 use Rattle.words.specs.Laws.Factorization.{Divides, division-reaches, factors-divide}

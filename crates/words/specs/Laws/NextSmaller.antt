@@ -1,14 +1,13 @@
 -- The longest Lyndon word at a position ends at the next smaller suffix; spans nest; neighbours join exactly when the left one is smaller.
 -- Assumes nothing.
-use mathlib.Core.Path.{_≡_, refl, sym, ap, subst, _∙_}
-use mathlib.Core.Logic.{_⊎_, inl, inr}
-use Prim.Native.Nat.{ℕ, zero, suc, _+_, _-_, _<_, _≤_}
+use mathlib.Core.Path.{_≡_, sym, ap, subst, _∙_}
+use Prim.Native.Nat.{ℕ, _+_, _-_, _<_, _≤_}
 use native.Mathlib.Omega.{arith}
 use native.Mathlib.Decide.{decLt, ℕ-discrete}
-use Rattle.words.specs.Letters.{Letters, Smaller, Comparison, below, same, above, Means}
-use Rattle.words.specs.Laws.Letters.{smaller-asym, smaller-trans, Compared}
+use Rattle.words.specs.Letters.{Letters, Smaller, below}
+use Rattle.words.specs.Laws.Letters.{smaller-trans}
 use Rattle.words.specs.Laws.Position.{Agree, BelowFrom, BelowWithin, SpanLyndon, SpanLess, differs, shorter}
-use Rattle.words.specs.Laws.SuffixOrder.{SuffixLess, ends, parts, NextSmaller, earlier-difference, agree-sym, agree-trans, agree-less, agree-shift, agree-join, suffix-irrefl, suffix-trans, suffix-asym, below-suffix, suffix-cancel, suffix-prepend}
+use Rattle.words.specs.Laws.SuffixOrder.{SuffixLess, ends, parts, NextSmaller, earlier-difference, agree-less, agree-join, suffix-irrefl, suffix-trans, suffix-asym, below-suffix, suffix-cancel, suffix-prepend}
 
 module _ {A : Type 0} (O : Letters A) (x : ℕ → A) (n : ℕ) where
   -- The empty suffix is the smallest one.

@@ -1,7 +1,7 @@
 -- Spans of one text compared by positions. A text is read as a function from positions to letters.
 -- Assumes nothing.
 use mathlib.Core.Path.{_≡_}
-use Prim.Native.Nat.{ℕ, _+_, _<_, _≤_}
+use Prim.Native.Nat.{ℕ, _+_, _<_}
 use Rattle.words.specs.Letters.{Letters, Smaller}
 
 -- The letters from i and from j on are the same below offset d.

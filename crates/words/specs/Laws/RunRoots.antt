@@ -7,9 +7,9 @@ use native.Mathlib.Nat.{mod-lt, mod-eq-of-lt, add-mod-right}
 use native.Mathlib.Omega.{arith}
 use native.Mathlib.Decide.{decLt, ℕ-discrete}
 use Rattle.words.specs.Letters.{Letters, Smaller, Comparison, below, same, above, Means}
-use Rattle.words.specs.Laws.Letters.{smaller-trans, Compared}
+use Rattle.words.specs.Laws.Letters.{Compared}
 use Rattle.words.specs.Laws.Position.{Agree, BelowFrom, BelowWithin, SpanLyndon}
-use Rattle.words.specs.Laws.SuffixOrder.{agree-sym, agree-trans, agree-less, agree-shift, earlier-difference}
+use Rattle.words.specs.Laws.SuffixOrder.{agree-sym, agree-shift, earlier-difference}
 use Rattle.words.specs.Laws.Compared.{AllCompared}
 use Rattle.words.specs.Laws.Periods.{SpanRun}
 

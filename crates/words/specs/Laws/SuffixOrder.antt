@@ -1,13 +1,12 @@
 -- The order of the suffixes of one text, and the next smaller suffix, which ends the longest Lyndon word.
 -- Assumes nothing.
 use mathlib.Core.Path.{_≡_, refl, sym, ap, subst, _∙_}
-use mathlib.Core.Logic.{_⊎_, inl, inr}
-use Prim.Native.Nat.{ℕ, zero, suc, _+_, _-_, _<_, _≤_}
+use Prim.Native.Nat.{ℕ, _+_, _-_, _<_, _≤_}
 use native.Mathlib.Omega.{arith}
-use native.Mathlib.Decide.{decLt, ℕ-discrete}
-use Rattle.words.specs.Letters.{Letters, Smaller, Comparison, below, same, above, Means}
-use Rattle.words.specs.Laws.Letters.{smaller-asym, smaller-trans, Compared}
-use Rattle.words.specs.Laws.Position.{Agree, BelowFrom, BelowWithin, SpanLyndon, SpanLess, differs, shorter}
+use native.Mathlib.Decide.{decLt}
+use Rattle.words.specs.Letters.{Letters, Smaller}
+use Rattle.words.specs.Laws.Letters.{smaller-trans}
+use Rattle.words.specs.Laws.Position.{Agree, BelowFrom, BelowWithin}
 
 -- The suffix at i is smaller than the suffix at j, in a text of n letters: it ends first, or has the smaller letter where they first differ.
 pub data SuffixLess {A : Type 0} (O : Letters A) (x : ℕ → A) (n i j : ℕ) : Type 0 where
