@@ -21,6 +21,7 @@ use Rattle.words.specs.Compute.Runs.{runsOf, runsOf-holds}
 use Rattle.words.specs.Compute.ValidArray.{HasVerdict, checkArray, checkArray-holds}
 use Rattle.words.specs.Laws.Lyndon.{LyndonTest}
 use Rattle.words.specs.Laws.Existence.{test-irrefutable, tested-array, tested-factorization, tested-suffix-table, tested-right-forest, tested-left-forest}
+use Rattle.words.specs.Laws.RunExistence.{run-list-irrefutable}
 use Rattle.words.specs.Laws.Unique.{array-unique, suffix-table-unique}
 use Rattle.words.specs.Laws.FactorChain.{factorization-unique}
 use Rattle.words.specs.Laws.ForestUnique.{right-forest-unique, left-forest-unique}
@@ -113,6 +114,10 @@ module _ {A : Type 0} (O : Letters A) (x : List A) where
 
 pub one-run-list : {A : Type 0} (E : DecidedEquality A) (x : List A) → ExactlyOne (IsRunList x)
 one-run-list E x = record { value = runsOf E x; holds = runsOf-holds E x; only = λ b h. run-list-unique h (runsOf-holds E x) }
+
+-- Letters of any kind, with no equality decided.
+pub run-list-for-all : {A : Type 0} (x : List A) → NeitherTwoNorNone (IsRunList x)
+run-list-for-all x = record { not-two = λ b c h k. run-list-unique h k; not-none = run-list-irrefutable x }
 
 pub one-verdict : (a : List ℕ) → ExactlyOne (HasVerdict a)
 one-verdict a = record { value = checkArray a; holds = checkArray-holds a; only = λ v h. verdict-unique a v (checkArray a) h (checkArray-holds a) }

@@ -35,3 +35,4 @@ pub mod ArrayValid
 pub mod ArrayFactors
 pub mod ArrayForest
 pub mod Existence
+pub mod RunExistence

@@ -51,11 +51,11 @@ span-lyndon-decided O x n compared a b h = within (decLt a b)
     within (no l) = no (λ w. l (w .non-empty))
 
 -- The answer of a decision.
-abbrev answered : {P : Type 0} → Dec P → Bool
+abbrev pub answered : {P : Type 0} → Dec P → Bool
 answered (yes p) = true
 answered (no n) = false
 
-answered-holds : {P : Type 0} (d : Dec P) → T (answered d) ↔ P
+pub answered-holds : {P : Type 0} (d : Dec P) → T (answered d) ↔ P
 answered-holds (yes p) = (λ t. p, λ q. tt)
 answered-holds (no n) = (λ t. absurd t, n)
 
