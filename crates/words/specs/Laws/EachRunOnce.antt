@@ -12,10 +12,10 @@ use Rattle.words.specs.Letters.{Letters, reversed}
 use Rattle.words.specs.Runs.{Run, Entry, Earlier, Sorted, IsRun, IsRunList}
 use Rattle.words.specs.Laws.SpanLyndon.{letters}
 use Rattle.words.specs.Laws.Compared.{AllCompared}
-use Rattle.words.specs.Laws.Runs.{run-period-unique, NotLater, InOrder}
+use Rattle.words.specs.Laws.Runs.{run-period-unique, NotLater, InOrder, entry-equal}
 use Rattle.words.specs.Laws.Different.{Different, different-append, different-snoc, different-rearranged}
 use Rattle.words.specs.Laws.RunListing.{listed-once, listed-one-order}
-use Rattle.words.specs.Laws.RunMarks.{ListedEntry, entry-equal, listed-entry-unique, listed-is-run, RunMark, run-mark, runs-fewer}
+use Rattle.words.specs.Laws.RunMarks.{ListedEntry, listed-entry-unique, listed-is-run, RunMark, run-mark, runs-fewer}
 
 -- A position from i on lists the entry r.
 pub record ListedFrom {A : Type 0} (O : Letters A) (x : ℕ → A) (n bound i : ℕ) (r : Entry) : Type 0 where

@@ -15,6 +15,10 @@ run-period-unique {x = x} {s = s} {e = e} {p = p} {q = q} r t =
     least-unique (λ k. (0 < k) × HasPeriod x s e k) (r .positive, r .period) (λ k l h. r .smallest k (h .0) l (h .1))
     (t .positive, t .period) (λ k l h. t .smallest k (h .0) l (h .1))
 
+-- Entries with the same numbers are equal.
+pub entry-equal : (r t : Entry) → r .start ≡ t .start → r .last ≡ t .last → r .period ≡ t .period → r ≡ t
+entry-equal r t a b c = λ i. record { start = a i; last = b i; period = c i }
+
 -- Of two entries at most one is earlier than the other.
 pub earlier-not-both : (r t : Entry) → Earlier r t → Earlier t r → ⊥
 earlier-not-both r t (inl h) (inl k) = omega arith
