@@ -228,10 +228,11 @@ join-start order x buf i l r =
           (subst (λ (j : ℕ). RowsOf order x buf j) e r);
     })
 
--- The comparison said same, or above: the word ends at its next smaller suffix.
-pub joined-same : (order : ℕ) (x before buf : List ℕ) (i j k₀ g₀ l s : ℕ) → Comparing order x before buf i j k₀ g₀ l s → (k : ℕ) →
-    Compared order x i j k Same → JoinedTo order x before buf i (record { end = j; agreed = k; part = g₀; stop = Same })
-joined-same order x before buf i j k₀ g₀ l s w k c =
+-- The comparison stopped the joining: the word ends at its next smaller suffix.
+joined-stopped : (order : ℕ) (x before buf : List ℕ) (i j k₀ g₀ l s : ℕ) → Comparing order x before buf i j k₀ g₀ l s → (k : ℕ) (stop : Comparison) →
+    Agreeing x i j k × NextSmaller (orderOf order) (letters 0 x) (length x) i j × Stopped order x i j k stop →
+    JoinedTo order x before buf i (record { end = j; agreed = k; part = g₀; stop = stop })
+joined-stopped order x before buf i j k₀ g₀ l s w k stop c =
     record {
       changed = w .loop .changed;
       joining =
@@ -241,17 +242,15 @@ joined-same order x before buf i j k₀ g₀ l s w k c =
       stopped = c .2;
     }
 
+-- It said same.
+pub joined-same : (order : ℕ) (x before buf : List ℕ) (i j k₀ g₀ l s : ℕ) → Comparing order x before buf i j k₀ g₀ l s → (k : ℕ) →
+    Compared order x i j k Same → JoinedTo order x before buf i (record { end = j; agreed = k; part = g₀; stop = Same })
+joined-same order x before buf i j k₀ g₀ l s w k c = joined-stopped order x before buf i j k₀ g₀ l s w k Same c
+
+-- It said above.
 pub joined-above : (order : ℕ) (x before buf : List ℕ) (i j k₀ g₀ l s : ℕ) → Comparing order x before buf i j k₀ g₀ l s → (k : ℕ) →
     Compared order x i j k Above → JoinedTo order x before buf i (record { end = j; agreed = k; part = g₀; stop = Above })
-joined-above order x before buf i j k₀ g₀ l s w k c =
-    record {
-      changed = w .loop .changed;
-      joining =
-          joining-agreed (orderOf order) (letters 0 x) (length x) (entryOf order x) (entry-next order x) (letters 0 buf) i j k₀ k g₀ (w .loop .joining)
-          (λ q. c .0 .agree) (λ q. c .0 .within);
-      next = c .1;
-      stopped = c .2;
-    }
+joined-above order x before buf i j k₀ g₀ l s w k c = joined-stopped order x before buf i j k₀ g₀ l s w k Above c
 
 -- The text ended.
 pub joined-end : (order : ℕ) (x before buf : List ℕ) (i j k g : ℕ) → JoinLoop order x before buf i j k g → length x ≤ j →

@@ -16,12 +16,13 @@ use Rattle.words.specs.Laws.SuffixOrder.{NextSmaller, agree-less}
 use Rattle.words.specs.Laws.RunListing.{Extent, ListedAt, extent-from, repeated-not-listed, agreement-short as root-agreement}
 use Rattle.words.specs.Laws.RunMarks.{ListedEntry, endBound, end-below, entry-listed, unlisted, entryOf as runEntry}
 use Rattle.words.specs.Laws.EachRunOnce.{ListsDown, lists-none, lists-skip, lists-one}
+use Rattle.sorting.specs.Exchange.{put, length-put}
 use Rattle.array.specs.CommonPrefix.{commonPrefix, Agreement, commonPrefix-agreement}
 use Rattle.array.specs.Core.State.{entryOf, entry-next, RowsOf, storedAt}
 use Rattle.array.specs.Core.Joining.{Joining, joining-agreed}
 use Rattle.array.specs.Core.Fill.{KeptFrom, Filled}
 use Rattle.array.specs.Core.Join.{SameWord, Agreeing, Stopped, JoinedTo}
-use Rattle.array.specs.Core.RunPass.{StoppedAt, Exact, ExtendedTo, LeftExtent, AtRoot, put, putAll, Listed, skipped, listed, Visited, Passing}
+use Rattle.array.specs.Core.RunPass.{StoppedAt, Exact, ExtendedTo, LeftExtent, AtRoot, putAll, Listed, skipped, listed, Visited, Passing}
 use Rattle.array.proofs.JoinLaws.{entry-own}
 use Rattle.array.proofs.FillLaws.{filled-start, filled-store}
 use Rattle.array.specs.declared.joined.Joined.{Joined}
@@ -276,12 +277,9 @@ visited order x before buf list list′ i s k count m r rows fits w e a b l =
     record { rows = f .rows; others = f .others; entry = l }
 
 -- Entries written one after another.
-pub put-length : (l : List ℕ) (k : ℕ) (r : Entry) → length (put l k r) ≡ length l
-put-length l k r = simp length-set
-
 pub putAll-length : (l : List ℕ) (k : ℕ) (rs : List Entry) → length (putAll l k rs) ≡ length l
 putAll-length l k [] = refl
-putAll-length l k (r ∷ rs) = putAll-length (put l k r) (suc k) rs ∙ put-length l k r
+putAll-length l k (r ∷ rs) = putAll-length (put l k r) (suc k) rs ∙ length-put l k r
 
 pub putAll-append : (l : List ℕ) (k : ℕ) (rs ts : List Entry) → putAll l k (rs ++ ts) ≡ putAll (putAll l k rs) (k + length rs) ts
 putAll-append l k [] ts = let e : k + 0 ≡ k = omega arith in ap (λ (m : ℕ). putAll l m ts) (sym e)

@@ -16,11 +16,12 @@ use Rattle.words.specs.Laws.Runs.{run-list-unique, numbers-length}
 use Rattle.words.specs.Compute.LyndonArray.{arrayOf, arrayOf-holds}
 use Rattle.words.specs.Compute.Runs.{runsOf-holds}
 use Rattle.answer.specs.Checks.{written}
+use Rattle.sorting.specs.Exchange.{put}
 use Rattle.sorting.specs.Triples.{AfterSort}
 use Rattle.sorting.specs.RunList.{RunsSorted, runs-sorted, sorted-member, member-sorted, sorted-length}
 use Rattle.array.specs.Calls.{runList, runNumbers, bothArrays}
 use Rattle.array.specs.Core.State.{letters-compared}
-use Rattle.array.specs.Core.RunPass.{put, putAll, Passing, OrderDone, RunsFound}
+use Rattle.array.specs.Core.RunPass.{putAll, Passing, OrderDone, RunsFound}
 use Rattle.array.specs.Core.Fill.{AllRestored}
 use Rattle.array.proofs.FillLaws.{array-written}
 use Rattle.array.proofs.RunLaws.{putAll-append, putAll-length}

@@ -13,13 +13,14 @@ use Rattle.words.specs.RightForest.{IsRightForest}
 use Rattle.words.specs.ValidArray.{Valid, Fault, textFor}
 use Rattle.words.specs.Permutation.{EachOnce}
 use Rattle.words.specs.ArrayForest.{forestFirst, forestPast}
+use Rattle.words.specs.ArrayFactors.{factorStarts}
 use Rattle.words.specs.Compute.ValidArray.{Verdict, fits, fault, HasVerdict, checkArray, checkArray-holds}
 use Rattle.words.specs.Laws.ValidArray.{valid-no-fault, checkArray-computes}
 use Rattle.words.specs.Laws.FactorChain.{factorization-unique}
 use Rattle.words.specs.Laws.ForestUnique.{right-forest-unique}
 use Rattle.words.specs.Laws.ArrayValid.{array-valid}
 use Rattle.words.specs.Laws.ValidText.{text-has-array, text-each-once}
-use Rattle.words.specs.Laws.ArrayFactors.{factorStarts, array-factorization}
+use Rattle.words.specs.Laws.ArrayFactors.{array-factorization}
 use Rattle.words.specs.Laws.ArrayForest.{array-forest, forest-determines}
 
 -- A text over some totally ordered letters, of whatever kind, that has a as its Lyndon array.

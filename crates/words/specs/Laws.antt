@@ -1,5 +1,7 @@
+pub mod Numbers
 pub mod Letters
 pub mod Word
+pub mod Lyndon
 pub mod Position
 pub mod SpanLyndon
 pub mod SuffixOrder
@@ -11,6 +13,8 @@ pub mod Tabulate
 pub mod Factorization
 pub mod Unique
 pub mod ForestUnique
+pub mod StandardFactorization
+pub mod ForestPositions
 pub mod Runs
 pub mod RunRenaming
 pub mod Different
@@ -30,3 +34,5 @@ pub mod ValidText
 pub mod ArrayValid
 pub mod ArrayFactors
 pub mod ArrayForest
+pub mod Existence
+pub mod RunExistence

@@ -8,7 +8,7 @@ use lib.Dec.{T, ltb, eqb, ltb→lt, nltb→le, eqb→eq, eqb-refl}
 
 -- Letters of any kind under a total order (document 01, "The words used", last point): of two different letters exactly one is
 -- smaller, and a letter smaller than a second is smaller than all that the second is smaller than. Nothing else is asked of them: no
--- way to decide a comparison, and nothing of a letter beside itself. "Exactly one" is said as "not neither, and not both".
+-- way to decide a comparison, and not even that no letter is before itself. "Exactly one" is said as "not neither, and not both".
 pub record Letters (A : Type 0) : Type 1 where
   pub Before : A → A → Type 0
   pub not-neither : (a b : A) → ¬ (a ≡ b) → ¬ ((¬ Before a b) × (¬ Before b a))
@@ -19,7 +19,7 @@ pub record Letters (A : Type 0) : Type 1 where
 abbrev pub Smaller : {A : Type 0} → Letters A → A → A → Type 0
 Smaller O a b = (¬ (a ≡ b)) × O .Before a b
 
--- The order turned round (document 01: "falling turns the comparison of letters round").
+-- The order turned round (document 01: "Order 1, falling, turns the comparison of letters round").
 abbrev pub reversed : {A : Type 0} → Letters A → Letters A
 reversed O =
     record {
@@ -47,7 +47,8 @@ rising =
 abbrev pub falling : Letters ℕ
 falling = reversed rising
 
--- The order that an order number stands for (document 01: order 0 is rising, order 1 falling).
+-- The order that an order number stands for (document 01: order 0 is rising, order 1 falling). Every number but 0 gives falling here; the
+-- calls refuse a number above 1.
 abbrev pub orderOf : ℕ → Letters ℕ
 orderOf zero = rising
 orderOf (suc k) = falling

@@ -12,6 +12,7 @@ pub mod LeftForest
 pub mod Runs
 pub mod ValidArray
 pub mod ArrayForest
+pub mod ArrayFactors
 pub mod Permutation
 pub mod Laws
 pub mod Compute

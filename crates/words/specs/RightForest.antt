@@ -8,7 +8,7 @@ use Rattle.words.specs.Lyndon.{Lyndon}
 use Rattle.words.specs.CutTree.{IsForest}
 
 -- The span from a to b is cut before c as u·v, v its longest proper Lyndon suffix (document 000, section 1; document 002, "Lyndon
--- trees (1)", has v as the smallest proper suffix).
+-- trees (1)", has v as the smallest proper suffix: Laws/StandardFactorization shows that these are one cut).
 pub record RightCut {A : Type 0} (O : Letters A) (x : List A) (a c b : ℕ) : Type 0 where
   pub proper : a < c
   pub inside : c < b

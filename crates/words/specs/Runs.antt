@@ -3,7 +3,6 @@
 use mathlib.Core.Path.{_≡_}
 use mathlib.Core.Logic.{_⊎_}
 use mathlib.Core.List.{List, [], _∷_, List·Memᴰ}
-use mathlib.Core.Option.{Option}
 use Prim.Native.Nat.{ℕ, suc, _+_, _<_, _≤_}
 use lib.ListN.{length, getElem?}
 
@@ -26,13 +25,13 @@ pub record Run {A : Type 0} (x : List A) (s e p : ℕ) : Type 0 where
   pub no-left : (i : ℕ) → s ≡ suc i → ¬ SameLetter x i (i + p)
   pub no-right : (i : ℕ) → e ≡ i + p → e < length x → ¬ SameLetter x i e
 
--- One entry of a run list: start, last position and period.
+-- One entry of a run list (document 01, "The calls"): start, last position and period.
 pub record Entry : Type 0 where
   pub start : ℕ
   pub last : ℕ
   pub period : ℕ
 
--- By start and then by last position.
+-- By start and then by last position (document 01, "The calls").
 abbrev pub Earlier : Entry → Entry → Type 0
 Earlier r t = (r .start < t .start) ⊎ ((r .start ≡ t .start) × (r .last < t .last))
 
@@ -44,13 +43,14 @@ Sorted (r ∷ rs) = ((t : Entry) → List·Memᴰ t rs → Earlier r t) × Sorte
 abbrev pub IsRun : {A : Type 0} → List A → Entry → Type 0
 IsRun x r = Run x (r .start) (suc (r .last)) (r .period)
 
--- rs lists the runs of x: it holds an entry exactly when it is a run, by start and then by last position, none twice.
+-- rs lists the runs of x (document 01, "The calls"): it holds an entry exactly when it is a run, by start and then by last position,
+-- none twice.
 pub record IsRunList {A : Type 0} (x : List A) (rs : List Entry) : Type 0 where
   pub sound : (r : Entry) → List·Memᴰ r rs → IsRun x r
   pub complete : (r : Entry) → IsRun x r → List·Memᴰ r rs
   pub sorted : Sorted rs
 
--- The numbers that a run list is written as: start, last position, period for each run.
+-- The numbers that a run list is written as (document 01, "The calls"): start, last position, period for each run.
 abbrev pub numbers : List Entry → List ℕ
 numbers [] = []
 numbers (r ∷ rs) = r .start ∷ r .last ∷ r .period ∷ numbers rs

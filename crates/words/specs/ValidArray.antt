@@ -20,7 +20,8 @@ pub record Crosses (a : List ℕ) (j : ℕ) : Type 0 where
   pub holds : j < earlier + getD a earlier 0
   pub past : earlier + getD a earlier 0 < j + getD a j 0
 
--- a is valid (document 01, "The calls"; the condition of document 003, Lemma 2, with lengths for ends).
+-- a is valid (document 01, "The calls"; document 003, section 2: Observation 1 and the paragraph before Figure 1, which asks
+-- i ≤ L*[i] ≤ n, with lengths for ends; Lemma 2 there, taken alone, admits an end before its own position).
 pub record Valid (a : List ℕ) : Type 0 where
   pub in-range : (i : ℕ) → i < length a → InRange a i
   pub nested : (j : ℕ) → j < length a → ¬ Crosses a j
@@ -51,10 +52,11 @@ abbrev pub holding : List ℕ → ℕ → ℕ → ℕ
 holding a i zero = 0
 holding a i (suc k) = holding a i k + one (ltb i (k + getD a k 0))
 
--- The letter that document 01 writes at i: the number of earlier positions whose span holds i, plus n − i − entry i.
+-- The letter written at i (document 01, "The calls"; document 003, Figure 1, whose letters count from 1): the number of earlier
+-- positions whose span holds i, plus n − i − entry i.
 abbrev pub letterFor : List ℕ → ℕ → ℕ
 letterFor a i = holding a i i + (length a - (i + getD a i 0))
 
--- The text that document 01 writes for a valid array.
+-- The text written for a valid array (document 01, "The calls"; document 003, Figure 1, with letters from 0).
 abbrev pub textFor : List ℕ → List ℕ
 textFor a = tabulate (letterFor a) 0 (length a)

@@ -1,6 +1,6 @@
 -- What an example comes to by computation, and that it then holds: each form that computes satisfies its definition.
 -- Assumes nothing.
-use mathlib.Core.Path.{_≡_, subst, ap}
+use mathlib.Core.Path.{_≡_, refl, subst}
 use mathlib.Core.List.{List, [], _∷_}
 use Prim.Native.Nat.{ℕ}
 use Rattle.words.specs.Letters.{rising, orderOf, decided-rising, decided-order}
@@ -14,9 +14,9 @@ use Rattle.words.specs.Compute.LyndonArray.{arrayOf, arrayOf-holds}
 use Rattle.words.specs.Compute.Factorization.{factorizationOf, factorizationOf-holds}
 use Rattle.words.specs.Compute.SuffixTable.{suffixTableOf, suffixTableOf-holds}
 use Rattle.words.specs.Compute.Forest.{rightFirstOf, rightPastOf, leftFirstOf, leftPastOf, rightForestOf-holds, leftForestOf-holds}
-use Rattle.words.specs.Compute.ValidArray.{Verdict, fits, fault, HasVerdict, checkArray, checkArray-holds}
+use Rattle.words.specs.Compute.ValidArray.{fits, fault, HasVerdict, checkArray, checkArray-holds}
 use Rattle.answer.specs.Faults.{reasonFor}
-use Rattle.answer.specs.Reasons.{numberOf}
+use Rattle.answer.specs.Answers.{refusedFor, number}
 use Rattle.worked.specs.Example.{Example, array, factors, suffix-table, right-forest, left-forest, text, refused, Holds, AllHold}
 
 -- The computed value is the one that the example gives.
@@ -29,7 +29,7 @@ Computed (right-forest x f p) =
 Computed (left-forest x f p) =
     let s = factorizationOf decided-rising x in (leftFirstOf decided-rising x s ≡ f) × (leftPastOf decided-rising x s ≡ p)
 Computed (text a x) = (checkArray a ≡ fits) × (textFor a ≡ x) × (arrayOf decided-rising x ≡ a)
-Computed (refused a r p) = (f : Fault) × (checkArray a ≡ fault f p) × (numberOf (reasonFor f) ≡ r)
+Computed (refused a r p) = (f : Fault) × (checkArray a ≡ fault f p) × (number (refusedFor (reasonFor f) p) ≡ r)
 
 pub computed-holds : (e : Example) → Computed e → Holds e
 computed-holds (array o x a) h = subst (IsLyndonArray (orderOf o) x) h (arrayOf-holds (decided-order o) x)
@@ -50,7 +50,7 @@ computed-holds (text a x) h =
       has = subst (IsLyndonArray rising x) (h .2) (arrayOf-holds decided-rising x);
     }
 computed-holds (refused a r p) h =
-    record { fault = h .0; first = subst (HasVerdict a) (h .1) (checkArray-holds a); numbered = h .2 }
+    record { fault = h .0; first = subst (HasVerdict a) (h .1) (checkArray-holds a); numbered = h .2; valued = refl }
 
 -- Every example of a table comes out by computation.
 abbrev pub AllComputed : List Example → Type 0

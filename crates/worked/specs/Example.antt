@@ -3,7 +3,7 @@
 use mathlib.Core.Path.{_≡_}
 use mathlib.Core.List.{List, [], _∷_}
 use Prim.Native.Nat.{ℕ}
-use Rattle.words.specs.Letters.{Letters, rising, orderOf}
+use Rattle.words.specs.Letters.{rising, orderOf}
 use Rattle.words.specs.LyndonArray.{IsLyndonArray}
 use Rattle.words.specs.Factorization.{IsFactorization}
 use Rattle.words.specs.SuffixTable.{IsSuffixTable}
@@ -11,7 +11,7 @@ use Rattle.words.specs.RightForest.{IsRightForest}
 use Rattle.words.specs.LeftForest.{IsLeftForest}
 use Rattle.words.specs.ValidArray.{Valid, Fault, FirstFault, textFor}
 use Rattle.answer.specs.Faults.{reasonFor}
-use Rattle.answer.specs.Reasons.{numberOf}
+use Rattle.answer.specs.Answers.{refusedFor, number, value}
 
 -- Letters are numbers, as all texts of the calls have them.
 pub data Example : Type 0 where
@@ -23,11 +23,13 @@ pub data Example : Type 0 where
   text : (entries text : List ℕ) → Example
   refused : (entries : List ℕ) (number position : ℕ) → Example
 
--- An array is refused with a number at a position: its first fault stands there, and its reason has that number.
-pub record Refused (a : List ℕ) (number position : ℕ) : Type 0 where
+-- An array is refused with a number at a position: its first fault stands there, and the answer that refuses it for that fault has that
+-- number, and that position as its value.
+pub record Refused (a : List ℕ) (r p : ℕ) : Type 0 where
   pub fault : Fault
-  pub first : FirstFault a fault position
-  pub numbered : numberOf (reasonFor fault) ≡ number
+  pub first : FirstFault a fault p
+  pub numbered : number (refusedFor (reasonFor fault) p) ≡ r
+  pub valued : value (refusedFor (reasonFor fault) p) ≡ p
 
 -- A text is written for an array: the array is valid, the text is the one that document 01 writes, and it has that array.
 pub record Written (a x : List ℕ) : Type 0 where

@@ -14,6 +14,7 @@ use Rattle.words.specs.Laws.EachRunOnce.{ListsDown}
 use Rattle.words.specs.Letters.{decided-order}
 use Rattle.words.specs.Compute.LyndonArray.{arrayOf}
 use Rattle.answer.specs.Checks.{written}
+use Rattle.sorting.specs.Exchange.{put}
 use Rattle.array.specs.Calls.{runList, runNumbers, bothArrays}
 use Rattle.array.specs.Core.State.{entryOf, RowsOf}
 use Rattle.array.specs.Core.Join.{Stopped, Agreeing}
@@ -54,10 +55,6 @@ pub record AtRoot (order : ℕ) (x : List ℕ) (i j k : ℕ) : Type 0 where
   pub next : NextSmaller (orderOf order) (letters 0 x) (length x) i j
   pub exact : Exact x i j k
   pub short : i + k < j
-
--- The list with r as entry k.
-abbrev pub put : List ℕ → ℕ → Entry → List ℕ
-put l k r = set (set (set l (3 * k) (r .start)) (3 * k + 1) (r .last)) (3 * k + 2) (r .period)
 
 -- The list with rs as its entries from k on.
 abbrev pub putAll : List ℕ → ℕ → List Entry → List ℕ

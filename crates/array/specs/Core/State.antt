@@ -12,9 +12,8 @@ use Rattle.words.specs.Letters.{Letters, orderOf, decided-order}
 use Rattle.words.specs.Laws.SpanLyndon.{letters}
 use Rattle.words.specs.Laws.SuffixOrder.{NextSmaller}
 use Rattle.words.specs.Laws.ArrayNext.{array-next}
-use Rattle.words.specs.Laws.Compared.{AllCompared}
+use Rattle.words.specs.Laws.Compared.{AllCompared, decided-compared}
 use Rattle.words.specs.Compute.LyndonArray.{arrayOf, arrayOf-holds}
-use Rattle.words.specs.Compute.Factorization.{decided-compared}
 use Rattle.array.specs.Core.Joining.{Rows}
 
 -- The entry of the Lyndon array of x at t.

@@ -14,7 +14,8 @@ use Rattle.words.specs.Factorization.{IsFactorization}
 use Rattle.words.specs.CutTree.{CutTree, letter, cut, Recorded, Tree, IsForest}
 use Rattle.words.specs.RightForest.{RightCut, IsRightForest}
 use Rattle.words.specs.LeftForest.{LeftCut, IsLeftForest}
-use Rattle.words.specs.Compute.Lyndon.{lyndonb, lyndonb-lyndon, lyndon-lyndonb, letter-passes}
+use Rattle.words.specs.Laws.Lyndon.{LyndonTest, test-letter}
+use Rattle.words.specs.Compute.Lyndon.{lyndonb, lyndon-test}
 use Rattle.words.specs.Compute.Search.{greatestBelow, GreatestBelow, greatestBelow-holds, at-most-greatest, leastFrom, LeastFrom, leastFrom-holds, least-at-most}
 use Rattle.words.specs.Laws.Factorization.{Divides, division-reaches, factors-divide}
 
@@ -223,46 +224,47 @@ forestOf-holds {x = x} {s = s} {cutAt = cutAt} R F =
       factor = factor-trees R (forestOf cutAt firstOf n s) (forestOf cutAt pastOf n s) 0 s d refl refl;
     }
 
-module _ {A : Type 0} {O : Letters A} (D : Decided O) (x : List A) where
-  -- The computed right cut is the one of the right forest's rule.
-  pub rightCutAt-holds : CutsBy (RightCut O x) (rightCutAt D x) (length x)
-  rightCutAt-holds = record { inside = λ a c b r. (r .proper, r .inside); right = right }
+module _ {A : Type 0} {O : Letters A} {x : List A} (t : LyndonTest O x) where
+  -- The least start behind a that passes a test for Lyndon words is the cut of the right forest's rule.
+  pub least-right-cuts : CutsBy (RightCut O x) (λ a b. leastFrom (λ k. t .test k b) (suc a) (b - suc a)) (length x)
+  least-right-cuts = record { inside = λ a c b r. (r .proper, r .inside); right = right }
     where
-      right : (a b : ℕ) → suc a < b → b ≤ length x → RightCut O x a (rightCutAt D x a b) b
+      right : (a b : ℕ) → suc a < b → b ≤ length x → RightCut O x a (leastFrom (λ k. t .test k b) (suc a) (b - suc a)) b
+      right a zero h f = absurd (omega arith)
       right a (suc e) h f =
-          let c = rightCutAt D x a (suc e) in
-          let p : ℕ → Bool = λ k. lyndonb D (span k (suc e) x) in
-          let one : T (p e) = letter-passes D x e f in
+          let p : ℕ → Bool = λ k. t .test k (suc e) in
+          let c = leastFrom p (suc a) (suc e - suc a) in
+          let one : T (p e) = test-letter t e f in
           let g : LeastFrom p (suc a) c = leastFrom-holds p (suc a) (suc e - suc a) e (omega arith) (omega arith) one in
           record {
             proper = g .reached;
             inside = omega (arith, least-at-most g e (omega arith) one);
-            lyndon = lyndonb-lyndon D (span c (suc e) x) (g .passes);
-            longest = λ k i j l. g .least k i j (lyndon-lyndonb D (span k (suc e) x) l);
+            lyndon = t .right c (suc e) f .0 (g .passes);
+            longest = λ k i j l. g .least k i j (t .right k (suc e) f .1 l);
           }
-      right a zero h f = absurd (omega arith)
 
-  -- The computed left cut is the one of the left forest's rule.
-  pub leftCutAt-holds : CutsBy (LeftCut O x) (leftCutAt D x) (length x)
-  leftCutAt-holds = record { inside = λ a c b r. (r .non-empty, r .proper); right = right }
+  -- The greatest end before b that passes is the cut of the left forest's rule.
+  pub greatest-left-cuts : CutsBy (LeftCut O x) (λ a b. greatestBelow (λ k. t .test a k) b) (length x)
+  greatest-left-cuts = record { inside = λ a c b r. (r .non-empty, r .proper); right = right }
     where
-      right : (a b : ℕ) → suc a < b → b ≤ length x → LeftCut O x a (leftCutAt D x a b) b
+      right : (a b : ℕ) → suc a < b → b ≤ length x → LeftCut O x a (greatestBelow (λ k. t .test a k) b) b
       right a b h f =
-          let c = leftCutAt D x a b in
-          let p : ℕ → Bool = λ k. lyndonb D (span a k x) in
-          let one : T (p (suc a)) = letter-passes D x a (omega arith) in
+          let p : ℕ → Bool = λ k. t .test a k in
+          let c = greatestBelow p b in
+          let one : T (p (suc a)) = test-letter t a (omega arith) in
           let g : GreatestBelow p b c = greatestBelow-holds p b (suc a) h one in
           record {
             non-empty = at-most-greatest g (suc a) h one;
             proper = g .below;
-            lyndon = lyndonb-lyndon D (span a c x) (g .passes);
-            longest = λ k i j l. g .greatest k i j (lyndon-lyndonb D (span a k x) l);
+            lyndon = t .right a c (omega (arith, g .below)) .0 (g .passes);
+            longest = λ k i j l. g .greatest k i j (t .right a k (omega arith) .1 l);
           }
 
+module _ {A : Type 0} {O : Letters A} (D : Decided O) (x : List A) where
   -- The computed lists are the right forest.
   pub rightForestOf-holds : {s : List ℕ} → IsFactorization O x s → IsRightForest O x (rightFirstOf D x s) (rightPastOf D x s)
-  rightForestOf-holds F = forestOf-holds rightCutAt-holds F
+  rightForestOf-holds F = forestOf-holds (least-right-cuts (lyndon-test D x)) F
 
   -- The computed lists are the left forest.
   pub leftForestOf-holds : {s : List ℕ} → IsFactorization O x s → IsLeftForest O x (leftFirstOf D x s) (leftPastOf D x s)
-  leftForestOf-holds F = forestOf-holds leftCutAt-holds F
+  leftForestOf-holds F = forestOf-holds (greatest-left-cuts (lyndon-test D x)) F

@@ -4,13 +4,11 @@ use mathlib.Core.Path.{_≡_, refl}
 use mathlib.Core.Logic.{_↔_}
 use mathlib.Core.Bool.{Bool, true, false}
 use mathlib.Core.List.{List, [], _∷_, _++_, nil≢cons, cons≢nil, tail-eq-of-cons-eq}
-use Prim.Native.Nat.{ℕ, zero, suc, _<_}
-use native.Mathlib.Omega.{arith}
-use lib.ListN.{length}
 use lib.Dec.{T}
 use Rattle.words.specs.Letters.{Letters, Decided}
 use Rattle.words.specs.Word.{Less, span}
 use Rattle.words.specs.Lyndon.{Lyndon}
+use Rattle.words.specs.Laws.Lyndon.{LyndonTest}
 use Rattle.words.specs.Compute.Word.{lessb, lessb-less, less-lessb}
 
 -- w is smaller than all non-empty suffixes of s, as a test.
@@ -64,8 +62,6 @@ module _ {A : Type 0} {O : Letters A} (D : Decided O) where
   pub lyndonb-holds : (w : List A) → T (lyndonb D w) ↔ Lyndon O w
   lyndonb-holds w = (lyndonb-lyndon w, lyndon-lyndonb w)
 
-  -- One letter of a text is a Lyndon word.
-  pub letter-passes : (x : List A) (i : ℕ) → i < length x → T (lyndonb D (span i (suc i) x))
-  letter-passes [] i h = absurd (omega arith)
-  letter-passes (a ∷ x) zero h = tt
-  letter-passes (a ∷ x) (suc i) h = letter-passes x i (omega arith)
+-- The test as one of the spans of a text.
+abbrev pub lyndon-test : {A : Type 0} {O : Letters A} → Decided O → (x : List A) → LyndonTest O x
+lyndon-test D x = record { test = λ a b. lyndonb D (span a b x); right = λ a b h. lyndonb-holds D (span a b x) }

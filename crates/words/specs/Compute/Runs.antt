@@ -10,19 +10,16 @@ use native.Mathlib.Omega.{arith}
 use native.Mathlib.Decide.{ℕ-discrete}
 use lib.ListN.{length, getElem?}
 use lib.Dec.{T, leb, T-not, not-T, leb→le, le→leb}
-use Rattle.words.specs.Equality.{DecidedEquality}
-use Rattle.words.specs.Runs.{SameLetter, HasPeriod, Run, Entry, Earlier, Sorted, IsRun, IsRunList}
-use Rattle.words.specs.Laws.Runs.{smallest-unique, run-period-unique}
+use Rattle.words.specs.Equality.{DecidedEquality, decided-number-equality}
+use Rattle.words.specs.Runs.{SameLetter, HasPeriod, Run, Entry, Earlier, Sorted, IsRun, IsRunList, numbers}
+use Rattle.words.specs.Compute.Search.{firstFrom, FirstFrom, firstFrom-holds}
+use Rattle.words.specs.Laws.Numbers.{least-unique}
+use Rattle.words.specs.Laws.Runs.{run-period-unique}
 
 -- f passes at each of the d numbers from i on.
 abbrev pub allFrom : (ℕ → Bool) → ℕ → ℕ → Bool
 allFrom f i zero = true
 allFrom f i (suc d) = elim (f i) [ true ↦ allFrom f (suc i) d | false ↦ false ]
-
--- The first of the d numbers from i on at which f passes.
-abbrev pub firstFrom : (ℕ → Bool) → ℕ → ℕ → Option ℕ
-firstFrom f i zero = none
-firstFrom f i (suc d) = elim (f i) [ true ↦ some i | false ↦ firstFrom f (suc i) d ]
 
 -- What f gives at each of the d numbers from i on, joined.
 abbrev pub listFrom : (ℕ → List Entry) → ℕ → ℕ → List Entry
@@ -79,6 +76,12 @@ runsFrom E x s = listFrom (entryAt E x s) s (length x - s)
 abbrev pub runsOf : {A : Type 0} → DecidedEquality A → List A → List Entry
 runsOf E x = listFrom (runsFrom E x) 0 (length x)
 
+-- The runs of `aaaa`, `a` and `aabaab` (document 01, "Worked by hand" and "The FASTA reader and the repeat lister"). 97 is a, 98 is b.
+checked : (numbers (runsOf decided-number-equality (97 ∷ 97 ∷ 97 ∷ 97 ∷ [])) ≡ 0 ∷ 3 ∷ 1 ∷ [])
+    × (numbers (runsOf decided-number-equality (97 ∷ [])) ≡ [])
+    × (numbers (runsOf decided-number-equality (97 ∷ 97 ∷ 98 ∷ 97 ∷ 97 ∷ 98 ∷ [])) ≡ 0 ∷ 1 ∷ 1 ∷ 0 ∷ 5 ∷ 3 ∷ 3 ∷ 4 ∷ 1 ∷ [])
+checked = (refl, refl, refl)
+
 pub allFrom-holds : (f : ℕ → Bool) (i d : ℕ) → T (allFrom f i d) ↔ ((k : ℕ) → i ≤ k → k < i + d → T (f k))
 allFrom-holds f i zero = (λ t k h l. absurd (omega arith), λ g. tt)
 allFrom-holds f i (suc d) = go (f i) refl (allFrom-holds f (suc i) d)
@@ -91,28 +94,6 @@ allFrom-holds f i (suc d) = go (f i) refl (allFrom-holds f (suc i) d)
         at t k h l (yes z) = subst (λ (n : ℕ). T (f n)) z (rw e tt)
         at t k h l (no n) = r .0 t k (omega arith) (omega arith)
     go false e r = (λ t. absurd t, λ g. rw e at (g i (omega arith) (omega arith)))
-
--- What the answer of firstFrom says: the number is the first, or there is none.
-abbrev pub FirstFrom : (ℕ → Bool) → ℕ → ℕ → Option ℕ → Type 0
-FirstFrom f i d none = (k : ℕ) → i ≤ k → k < i + d → ¬ T (f k)
-FirstFrom f i d (some p) = (i ≤ p) × (p < i + d) × T (f p) × ((k : ℕ) → i ≤ k → k < p → ¬ T (f k))
-
-pub firstFrom-holds : (f : ℕ → Bool) (i d : ℕ) → FirstFrom f i d (firstFrom f i d)
-firstFrom-holds f i zero = λ k h l t. omega arith
-firstFrom-holds f i (suc d) = go (f i) refl (firstFrom f (suc i) d) (firstFrom-holds f (suc i) d)
-  where
-    past : f i ≡ false → (k : ℕ) → i ≤ k → (suc i ≤ k → ¬ T (f k)) → ¬ T (f k)
-    past e k h g t = at (ℕ-discrete i k)
-      where
-        at : Dec (i ≡ k) → ⊥
-        at (yes z) = subst T e (subst⁻¹ (λ (n : ℕ). T (f n)) z t)
-        at (no n) = g (omega arith) t
-
-    go : (b : Bool) → f i ≡ b → (o : Option ℕ) → FirstFrom f (suc i) d o
-        → FirstFrom f i (suc d) (elim b [ true ↦ some i | false ↦ o ])
-    go true e o r = (omega arith, omega arith, rw e tt, λ k h l t. omega arith)
-    go false e none r = λ k h l. past e k h (λ m. r k m (omega arith))
-    go false e (some p) r = (omega arith, omega arith, r .2, λ k h l. past e k h (λ m. r .3 k m l))
 
 pub equalAt-right : {A : Type 0} (E : DecidedEquality A) (o q : Option A) → T (equalAt E o q) ↔ (o ≡ q)
 equalAt-right E none none = (λ t. refl, λ e. tt)
@@ -184,17 +165,17 @@ module _ {A : Type 0} (E : DecidedEquality A) (x : List A) where
       stops = and-holds (stopsLeft E x s p) (stopsRight E x e p)
 
       smaller : (q : ℕ) → 0 < q → q < p → ¬ HasPeriod x s e q
-      smaller q h k g = f .3 q h k (hasPeriod-holds s e q .1 g)
+      smaller q h k g = f .1 .least q h k (hasPeriod-holds s e q .1 g)
 
       period : HasPeriod x s e p
-      period = hasPeriod-holds s e p .0 (f .2)
+      period = hasPeriod-holds s e p .0 (f .1 .passes)
 
       go : (b : Bool) → (stopsLeft E x s p && stopsRight E x e p) ≡ b → Found x s e (elim b [ true ↦ some p | false ↦ none ])
       go true z =
           let both : T (stopsLeft E x s p) × T (stopsRight E x e p) = stops .0 (rw z tt) in
           record {
-            positive = f .0;
-            twice = omega arith;
+            positive = f .1 .reached;
+            twice = omega (arith, f .0);
             inside = l;
             period = period;
             smallest = smaller;
@@ -202,7 +183,7 @@ module _ {A : Type 0} (E : DecidedEquality A) (x : List A) where
             no-right = stopsRight-holds e p (omega arith) .0 (both .1);
           }
       go false z = λ q r.
-          let same : q ≡ p = smallest-unique (HasPeriod x s e) q p (r .positive) (f .0) (r .period) period (r .smallest) smaller in
+          let same : q ≡ p = least-unique (λ k. (0 < k) × HasPeriod x s e k) (r .positive, r .period) (λ k l h. r .smallest k (h .0) l (h .1)) (f .1 .reached, period) (λ k l h. smaller k (h .0) l (h .1)) in
           let run : Run x s e p = rw same at r in
           subst T z (stops .1 (stopsLeft-holds s p .1 (run .no-left), stopsRight-holds e p (omega arith) .1 (run .no-right)))
 

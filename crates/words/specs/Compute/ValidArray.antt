@@ -1,15 +1,15 @@
 -- The check of an array, in a form that computes: the array's first fault, or that there is none.
 -- Assumes nothing.
-use mathlib.Core.Path.{_≡_, refl, subst}
+use mathlib.Core.Path.{_≡_, refl}
 use mathlib.Core.Bool.{Bool, true, false, _&&_, _||_}
 use mathlib.Core.List.{List, [], _∷_}
 use Prim.Native.Nat.{ℕ, zero, suc, _+_, _<_, _≤_}
 use native.Mathlib.Omega.{arith}
-use native.Mathlib.Decide.{decLt}
 use lib.ListN.{length, getD}
 use lib.Dec.{ltb, eqb}
 use borrow.Author.Tests.{ltb-true, ltb-false, eqb-true, eqb-false}
-use Rattle.words.specs.ValidArray.{InRange, Crosses, Valid, Fault, zero-entry, long-entry, crossing, EarlierInRange, FirstFault}
+use Rattle.words.specs.ValidArray.{InRange, Crosses, Valid, Fault, zero-entry, long-entry, crossing, EarlierInRange, FirstFault, textFor}
+use Rattle.words.specs.Laws.Numbers.{below-suc}
 
 -- What the check says of an array: that it is valid, or its first fault and the position of that.
 pub data Verdict : Type 0 where
@@ -54,9 +54,9 @@ checkEntries a i (suc d) =
 abbrev pub checkArray : List ℕ → Verdict
 checkArray a = checkEntries a 0 (length a)
 
--- Arrays of document 01, "Worked by hand" and "Traps on the way".
-checked : (checkArray (3 ∷ 1 ∷ 1 ∷ []) ≡ fits)
-    × (checkArray (2 ∷ 2 ∷ 1 ∷ []) ≡ fault crossing 1)
+-- Arrays of document 01 that are not in the table of K1 to K12 ("Worked by hand", "Traps on the way").
+checked : (checkArray (1 ∷ 1 ∷ []) ≡ fits)
+    × (textFor (1 ∷ 1 ∷ []) ≡ 1 ∷ 0 ∷ [])
     × (checkArray (1 ∷ 0 ∷ []) ≡ fault zero-entry 1)
     × (checkArray (1 ∷ 2 ∷ []) ≡ fault long-entry 1)
     × (checkArray (1 ∷ 4294967295 ∷ []) ≡ fault long-entry 1)
@@ -86,14 +86,6 @@ crossesBelow-tells a j (suc k) h =
     go true true p q t = record { earlier = k; before = h; holds = omega (arith, ltb-true); past = omega (arith, ltb-true) }
     go true false p q t = tells-next a j k (crossesBelow a j k) (λ n. omega (arith, ltb-false)) t
     go false c p q t = tells-next a j k (crossesBelow a j k) (λ n. omega (arith, ltb-false)) t
-
--- What holds below i, and at i, holds below i + 1.
-below-suc : (P : ℕ → Type 0) (i : ℕ) → ((k : ℕ) → k < i → P k) → P i → (k : ℕ) → k < suc i → P k
-below-suc P i below at k h = go (decLt k i)
-  where
-    go : Dec (k < i) → P k
-    go (yes l) = below k l
-    go (no n) = subst P (omega (arith, n)) at
 
 module _ (a : List ℕ) (in-range : (i : ℕ) → i < length a → InRange a i) where
   -- The verdict on the spans from j on is the array's, where no earlier span crosses.

@@ -4,7 +4,7 @@
 use mathlib.Core.Path.{_≡_, refl, sym, ap, _∙_}
 use mathlib.Core.Bool.{Bool, true, false}
 use mathlib.Core.List.{List, [], _∷_, _++_}
-use Prim.Native.Nat.{ℕ, zero, suc, _+_, _-_, _<_, _≤_}
+use Prim.Native.Nat.{ℕ, zero, suc, _+_, _<_, _≤_}
 use native.Mathlib.Omega.{arith}
 use lib.ListN.{length, drop}
 use lib.Seq.{take-length, drop-length}
@@ -16,7 +16,7 @@ use Rattle.words.specs.LyndonArray.{IsLyndonArray}
 use Rattle.words.specs.Factorization.{joined, AllLyndon, NeverRising, starts, IsFactorization}
 use Rattle.words.specs.ValidArray.{Valid}
 use Rattle.words.specs.ArrayForest.{endOf}
-use Rattle.words.specs.Compute.Factorization.{startsFrom}
+use Rattle.words.specs.ArrayFactors.{startsFrom, factorStarts}
 use Rattle.words.specs.Laws.SpanLyndon.{letters, length-span, span-split}
 use Rattle.words.specs.Laws.Compared.{all-compared-irrefutable}
 use Rattle.words.specs.Laws.ArrayNext.{LeadsToNext, array-next}
@@ -28,10 +28,6 @@ use Rattle.words.specs.Laws.ArrayValid.{array-valid}
 abbrev pub EndChain : List ℕ → ℕ → List ℕ → Type 0
 EndChain a i [] = i ≡ length a
 EndChain a i (j ∷ s) = (i ≡ j) × (i < length a) × EndChain a (endOf a i) s
-
--- The starts of the factors of a text that has the array.
-abbrev pub factorStarts : List ℕ → List ℕ
-factorStarts a = startsFrom a (length a) 0
 
 startsFrom-ends : (a : List ℕ) → Valid a → (fuel i : ℕ) → i ≤ length a → length a ≤ fuel + i → EndChain a i (startsFrom a fuel i)
 startsFrom-ends a v zero i p q = omega arith

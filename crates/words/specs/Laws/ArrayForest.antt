@@ -19,11 +19,12 @@ use Rattle.words.specs.CutTree.{CutTree, letter, cut, Recorded, Tree}
 use Rattle.words.specs.RightForest.{RightCut, IsRightForest}
 use Rattle.words.specs.ValidArray.{Valid}
 use Rattle.words.specs.ArrayForest.{endOf, firstFor, pastFor, forestFirst, forestPast}
+use Rattle.words.specs.ArrayFactors.{factorStarts}
 use Rattle.words.specs.Compute.Search.{leastFrom, LeastFrom, leastFrom-holds, least-at-most}
 use Rattle.words.specs.Laws.Tabulate.{length-tabulate, getD-tabulate}
 use Rattle.words.specs.Laws.ValidSpans.{Unheld, innermost-is, unheld-is, own-unheld, past-of-start, past-of-inner, end-after, end-inside, ends-nest, end-unheld}
 use Rattle.words.specs.Laws.ArrayValid.{array-valid}
-use Rattle.words.specs.Laws.ArrayFactors.{EndChain, factorStarts, starts-ends, array-factorization}
+use Rattle.words.specs.Laws.ArrayFactors.{EndChain, starts-ends, array-factorization}
 
 pub length-forestFirst : (a : List ℕ) → length (forestFirst a) ≡ length a
 length-forestFirst a = length-tabulate (firstFor a) 0 (length a)

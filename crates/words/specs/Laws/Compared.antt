@@ -1,15 +1,16 @@
 -- Where the letters of a text are compared, suffixes are compared and every position has its next smaller suffix. That finitely many
 -- letters are compared cannot be refuted, so what speaks of numbers alone holds without it.
 -- Assumes nothing.
-use mathlib.Core.Path.{_≡_, refl, sym, ap, subst, _∙_}
+use mathlib.Core.Path.{_≡_, ap, subst}
 use mathlib.Core.Logic.{_⊎_, inl, inr}
 use mathlib.Core.List.{List}
-use Prim.Native.Nat.{ℕ, zero, suc, _+_, _-_, _<_, _≤_}
+use Prim.Native.Nat.{ℕ, zero, suc, _+_, _<_, _≤_}
 use native.Mathlib.Omega.{arith}
 use native.Mathlib.Decide.{decLt, ℕ-discrete}
 use lib.ListN.{length, getD}
 use lib.Seq.{ext-getD}
-use Rattle.words.specs.Letters.{Letters, Smaller, Comparison, below, same, above, Means}
+use Rattle.words.specs.Letters.{Letters, Comparison, below, same, above, Means, Decided}
+use Rattle.words.specs.Laws.Numbers.{below-suc}
 use Rattle.words.specs.Laws.Letters.{Compared, compared-irrefutable}
 use Rattle.words.specs.Laws.Position.{Agree, SpanLyndon}
 use Rattle.words.specs.Laws.SuffixOrder.{SuffixLess, ends, parts, NextSmaller, agree-sym}
@@ -18,6 +19,10 @@ use Rattle.words.specs.Laws.NextSmaller.{empty-suffix-less, next-lyndon,
 -- The letters at any two positions below n are compared.
 abbrev pub AllCompared : {A : Type 0} → Letters A → (ℕ → A) → ℕ → Type 0
 AllCompared O x n = (i j : ℕ) → i < n → j < n → Compared O (x i) (x j)
+
+-- Decided letters are compared at all positions.
+pub decided-compared : {A : Type 0} {O : Letters A} (D : Decided O) (x : ℕ → A) (n : ℕ) → AllCompared O x n
+decided-compared D x n i j p q = (D .compare (x i) (x j), D .right (x i) (x j))
 
 module _ {A : Type 0} (O : Letters A) (x : ℕ → A) (n : ℕ) (compared : AllCompared O x n) where
   suffix-compare-from : (i j fuel d : ℕ) → i + d ≤ n → j + d ≤ n → ¬ (i ≡ j) → n ≤ fuel + d → Agree x i j d →
@@ -99,11 +104,7 @@ module _ {A : Type 0} (O : Letters A) (x : ℕ → A) (n : ℕ) (compared : AllC
 pub all-irrefutable : (P : ℕ → Type 0) (m : ℕ) → ((k : ℕ) → k < m → ¬ ¬ P k) → ¬ ¬ ((k : ℕ) → k < m → P k)
 all-irrefutable P zero h never = never (λ k l. absurd (omega arith))
 all-irrefutable P (suc m) h never =
-    all-irrefutable P m (λ k l. h k (omega arith)) (λ q. h m (omega arith) (λ p. never (λ k l. at q p k l (decLt k m))))
-  where
-    at : ((k : ℕ) → k < m → P k) → P m → (k : ℕ) → k < suc m → Dec (k < m) → P k
-    at q p k l (yes r) = q k r
-    at q p k l (no r) = let t : m ≡ k = omega (arith, r) in subst P t p
+    all-irrefutable P m (λ k l. h k (omega arith)) (λ q. h m (omega arith) (λ p. never (below-suc P m q p)))
 
 -- That all letters of a text are compared cannot be refuted.
 pub all-compared-irrefutable : {A : Type 0} (O : Letters A) (x : ℕ → A) (n : ℕ) → ¬ ¬ AllCompared O x n

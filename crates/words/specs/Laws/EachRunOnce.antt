@@ -12,10 +12,10 @@ use Rattle.words.specs.Letters.{Letters, reversed}
 use Rattle.words.specs.Runs.{Run, Entry, Earlier, Sorted, IsRun, IsRunList}
 use Rattle.words.specs.Laws.SpanLyndon.{letters}
 use Rattle.words.specs.Laws.Compared.{AllCompared}
-use Rattle.words.specs.Laws.Runs.{run-period-unique}
+use Rattle.words.specs.Laws.Runs.{run-period-unique, NotLater, InOrder, entry-equal}
 use Rattle.words.specs.Laws.Different.{Different, different-append, different-snoc, different-rearranged}
 use Rattle.words.specs.Laws.RunListing.{listed-once, listed-one-order}
-use Rattle.words.specs.Laws.RunMarks.{ListedEntry, entry-equal, listed-entry-unique, listed-is-run, RunMark, run-mark, runs-fewer}
+use Rattle.words.specs.Laws.RunMarks.{ListedEntry, listed-entry-unique, listed-is-run, RunMark, run-mark, runs-fewer}
 
 -- A position from i on lists the entry r.
 pub record ListedFrom {A : Type 0} (O : Letters A) (x : ℕ → A) (n bound i : ℕ) (r : Entry) : Type 0 where
@@ -143,15 +143,6 @@ module _ {A : Type 0} (O : Letters A) (z : A) (x : List A) where
       go : (r : Entry) → (i : ℕ) × RunMark O z x r i → List·Memᴰ r (rs ++ ts)
       go r (i, inl w) = Memᴰ·append-left ts (h .complete r (record { place = i; low = omega arith; listed = w }))
       go r (i, inr w) = Memᴰ·append-right rs (g .complete r (record { place = i; low = omega arith; listed = w }))
-
--- By start and then by last position, equal ones allowed.
-abbrev pub NotLater : Entry → Entry → Type 0
-NotLater r t = (r .start < t .start) ⊎ ((r .start ≡ t .start) × (r .last ≤ t .last))
-
--- No entry stands after a later one.
-abbrev pub InOrder : List Entry → Type 0
-InOrder [] = Unit {0}
-InOrder (r ∷ rs) = ((t : Entry) → List·Memᴰ t rs → NotLater r t) × InOrder rs
 
 module _ {A : Type 0} (x : List A) where
   -- Of different runs the one that is not later is earlier.

@@ -6,13 +6,13 @@ use mathlib.Core.List.{List, [], _∷_, _++_}
 use Prim.Native.Nat.{ℕ, zero, suc, _+_, _-_, _<_, _≤_}
 use native.Mathlib.Omega.{arith}
 use native.Mathlib.Nat.{zero-add, suc-add}
-use lib.ListN.{length, getD, take, drop, length-append, length-drop, take-append-drop}
+use lib.ListN.{length, take, drop, length-append, length-drop}
 use lib.Seq.{take-nil, take-length, drop-length, take-append-seam, drop-append-seam, drop-drop}
 use Rattle.words.specs.Letters.{Letters}
 use Rattle.words.specs.Word.{span, Less}
 use Rattle.words.specs.Lyndon.{Lyndon}
 use Rattle.words.specs.Factorization.{joined, AllLyndon, NeverRising, starts, IsFactorization}
-use Rattle.words.specs.Laws.Position.{SpanLyndon, SpanLess}
+use Rattle.words.specs.Laws.Position.{SpanLyndon}
 use Rattle.words.specs.Laws.SpanLyndon.{letters, length-span, less-span, span-less, span-split, lyndon-span, span-lyndon}
 use Rattle.words.specs.Laws.SuffixOrder.{SuffixLess, NextSmaller, suffix-asym}
 use Rattle.words.specs.Laws.NextSmaller.{empty-suffix-less, next-lyndon, next-unique, lyndon-next, less-suffix, suffix-less}

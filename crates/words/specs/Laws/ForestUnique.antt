@@ -5,8 +5,8 @@ use mathlib.Core.List.{List}
 use Prim.Native.Nat.{ℕ}
 use Rattle.words.specs.Letters.{Letters}
 use Rattle.words.specs.CutTree.{IsForest}
-use Rattle.words.specs.RightForest.{RightCut, IsRightForest}
-use Rattle.words.specs.LeftForest.{LeftCut, IsLeftForest}
+use Rattle.words.specs.RightForest.{IsRightForest}
+use Rattle.words.specs.LeftForest.{IsLeftForest}
 use Rattle.words.specs.Laws.Unique.{forest-unique, right-cut-unique, left-cut-unique}
 use Rattle.words.specs.Laws.FactorChain.{factorization-unique}
 

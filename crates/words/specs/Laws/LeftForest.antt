@@ -10,11 +10,13 @@ use lib.ListN.{length, getD}
 use Rattle.words.specs.Letters.{Letters, Decided}
 use Rattle.words.specs.CutTree.{CutTree, letter, cut, Recorded, Tree}
 use Rattle.words.specs.LeftForest.{LeftCut, IsLeftForest}
-use Rattle.words.specs.Compute.Factorization.{factorizationOf, factorizationOf-holds, decided-compared}
-use Rattle.words.specs.Compute.Forest.{leftCutAt, leftCutAt-holds}
+use Rattle.words.specs.Compute.Factorization.{factorizationOf, factorizationOf-holds}
+use Rattle.words.specs.Compute.Forest.{leftCutAt, greatest-left-cuts}
+use Rattle.words.specs.Compute.Lyndon.{lyndon-test}
 use Rattle.words.specs.Laws.Position.{SpanLyndon}
 use Rattle.words.specs.Laws.SpanLyndon.{letters, lyndon-span, span-lyndon}
 use Rattle.words.specs.Laws.NextSmaller.{next-lyndon}
+use Rattle.words.specs.Laws.Compared.{decided-compared}
 use Rattle.words.specs.Laws.FactorChain.{factorization-chain}
 use Rattle.words.specs.Laws.LowestSuffix.{FactorSpan, lowest-first, chain-factor}
 use Rattle.words.specs.Laws.LongestEnding.{LongestEnding, lyndon-overlap, ending-inside, lowest-reached}
@@ -150,7 +152,7 @@ module _ {A : Type 0} {O : Letters A} (D : Decided O) (z : A) (x : List A) (star
       go (no l) rest =
           let e : b ≡ suc a = omega (arith, l, w .order) in
           (letter e, tt)
-      go (yes l) rest = at (leftCutAt D x a b) (leftCutAt-holds D x .right a b l (w .inside))
+      go (yes l) rest = at (leftCutAt D x a b) (greatest-left-cuts (lyndon-test D x) .right a b l (w .inside))
         where
           at : (c : ℕ) → LeftCut O x a c b → (t : CutTree (LeftCut O x) a b) × Recorded first past t
           at zero k = absurd (omega (arith, k .non-empty))

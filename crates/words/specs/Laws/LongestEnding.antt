@@ -2,7 +2,7 @@
 -- Assumes nothing.
 use mathlib.Core.Path.{_≡_, sym, ap, _∙_}
 use mathlib.Core.List.{List}
-use Prim.Native.Nat.{ℕ, zero, suc, _+_, _-_, _<_, _≤_}
+use Prim.Native.Nat.{ℕ, suc, _+_, _-_, _<_, _≤_}
 use native.Mathlib.Omega.{arith}
 use native.Mathlib.Decide.{decLt}
 use lib.ListN.{length}
@@ -10,7 +10,7 @@ use Rattle.words.specs.Letters.{Letters}
 use Rattle.words.specs.SuffixTable.{LongestTo}
 use Rattle.words.specs.Laws.Position.{BelowWithin, SpanLyndon}
 use Rattle.words.specs.Laws.SpanLyndon.{letters, lyndon-span, span-lyndon}
-use Rattle.words.specs.Laws.NextSmaller.{below-trans}
+use Rattle.words.specs.Laws.NextSmaller.{below-longer, below-trans}
 use Rattle.words.specs.Laws.LowestSuffix.{Lowest, lowest-uncrossed}
 use Rattle.words.specs.Laws.Repetition.{Repetition, lyndon-copy, first-copy-left}
 
@@ -24,12 +24,9 @@ module _ {A : Type 0} (O : Letters A) (x : ℕ → A) where
   pub lyndon-overlap : (a b c d : ℕ) → SpanLyndon O x a c → SpanLyndon O x b d → a < b → b < c → c ≤ d → SpanLyndon O x a d
   lyndon-overlap a b c d u v p q r = record { non-empty = omega arith; below = λ k i j. go k i j (decLt k c) }
     where
-      longer : (k : ℕ) → BelowWithin O x a k c → BelowWithin O x a k d
-      longer k w = record { offset = w .offset; inside = omega (arith, w .inside); agree = w .agree; smaller = w .smaller }
-
       go : (k : ℕ) → a < k → k < d → Dec (k < c) → BelowWithin O x a k d
-      go k i j (yes l) = longer k (u .below k i l)
-      go k i j (no l) = below-trans O x d a b k d (omega arith) (longer b (u .below b p q)) (v .below k (omega arith) j)
+      go k i j (yes l) = below-longer O x d a k c d r (u .below k i l)
+      go k i j (no l) = below-trans O x d a b k d (below-longer O x d a b c d r (u .below b p q)) (v .below k (omega arith) j)
 
   -- A longest Lyndon word is not overlapped from the left by one that ends inside it.
   pub ending-inside : (s e k b : ℕ) → LongestEnding O x s e → SpanLyndon O x k b → s < b → b ≤ e → s ≤ k

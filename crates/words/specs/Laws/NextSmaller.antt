@@ -1,21 +1,20 @@
 -- The longest Lyndon word at a position ends at the next smaller suffix; spans nest; neighbours join exactly when the left one is smaller.
 -- Assumes nothing.
-use mathlib.Core.Path.{_≡_, refl, sym, ap, subst, _∙_}
-use mathlib.Core.Logic.{_⊎_, inl, inr}
-use Prim.Native.Nat.{ℕ, zero, suc, _+_, _-_, _<_, _≤_}
+use mathlib.Core.Path.{_≡_, sym, ap, subst, _∙_}
+use Prim.Native.Nat.{ℕ, _+_, _-_, _<_, _≤_}
 use native.Mathlib.Omega.{arith}
 use native.Mathlib.Decide.{decLt, ℕ-discrete}
-use Rattle.words.specs.Letters.{Letters, Smaller, Comparison, below, same, above, Means}
-use Rattle.words.specs.Laws.Letters.{smaller-asym, smaller-trans, Compared}
-use Rattle.words.specs.Laws.Position.{Agree, BelowWithin, SpanLyndon, SpanLess, differs, shorter}
-use Rattle.words.specs.Laws.SuffixOrder.{SuffixLess, ends, parts, NextSmaller, agree-sym, agree-trans, agree-less, agree-shift, agree-join, suffix-irrefl, suffix-trans, suffix-asym, below-suffix, suffix-cancel, suffix-prepend}
+use Rattle.words.specs.Letters.{Letters, Smaller, below}
+use Rattle.words.specs.Laws.Letters.{smaller-trans}
+use Rattle.words.specs.Laws.Position.{Agree, BelowFrom, BelowWithin, SpanLyndon, SpanLess, differs, shorter}
+use Rattle.words.specs.Laws.SuffixOrder.{SuffixLess, ends, parts, NextSmaller, earlier-difference, agree-less, agree-join, suffix-irrefl, suffix-trans, suffix-asym, below-suffix, suffix-cancel, suffix-prepend}
 
 module _ {A : Type 0} (O : Letters A) (x : ℕ → A) (n : ℕ) where
   -- The empty suffix is the smallest one.
   pub empty-suffix-less : (i : ℕ) → i < n → SuffixLess O x n n i
   empty-suffix-less i l = ends 0 (omega arith) (omega arith) (λ k h. absurd (omega arith))
 
-  lyndon-below : (i e : ℕ) → SpanLyndon O x i e → e ≤ n → (k : ℕ) → i < k → k < e → SuffixLess O x n i k
+  pub lyndon-below : (i e : ℕ) → SpanLyndon O x i e → e ≤ n → (k : ℕ) → i < k → k < e → SuffixLess O x n i k
   lyndon-below i e w h k p q = below-suffix O x n i k e (omega arith) h (w .below k p q)
 
   -- The span up to the next smaller suffix is a Lyndon word.
@@ -65,7 +64,8 @@ module _ {A : Type 0} (O : Letters A) (x : ℕ → A) (n : ℕ) where
   pub lyndon-next : (i e : ℕ) → SpanLyndon O x i e → e ≤ n → SuffixLess O x n e i → NextSmaller O x n i e
   lyndon-next i e w h d = record { after = w .non-empty; inside = h; drops = d; between = lyndon-below i e w h }
 
-  -- u = x[i..e) a Lyndon word, v = x[e..f) up to the next smaller suffix. If u is smaller than v, the suffix at i is smaller than that at e.
+  -- u = x[i..e), a Lyndon word or not, and v = x[e..f) up to the next smaller suffix. If u is smaller than v, the suffix at i is smaller
+  -- than that at e.
   pub less-suffix : (i e f : ℕ) → i < e → NextSmaller O x n e f → SpanLess O x i e e f → SuffixLess O x n i e
   less-suffix i e f l m (differs d p q g s) = parts d (omega (arith, m .inside)) (omega (arith, m .inside)) g s
   less-suffix i e f l m (shorter d p q g) =
@@ -123,7 +123,7 @@ module _ {A : Type 0} (O : Letters A) (x : ℕ → A) (n : ℕ) where
           (subst (λ (c : A). Smaller O (x (i + j)) c) (sym last)
           (subst (λ (c : A). Smaller O c (x (e + d))) (sym (lw .agree j m ∙ last-t)) s)))
 
-  -- And only then.
+  -- And only then, where u is a Lyndon word.
   pub suffix-less : (i e f : ℕ) → SpanLyndon O x i e → NextSmaller O x n e f → SuffixLess O x n i e → SpanLess O x i e e f
   suffix-less i e f w m (ends d a b g) = absurd (omega (arith, w .non-empty))
   suffix-less i e f w m (parts d a b g s) = go (decLt (i + d) e) (decLt (e + d) f) (decLt (e + (e - i)) f)
@@ -152,45 +152,18 @@ module _ {A : Type 0} (O : Letters A) (x : ℕ → A) (n : ℕ) where
       go (no p) q (no r) = absurd (never (omega (arith, p, r, w .non-empty)) (omega (arith, r)))
       go (yes p) (no q) r = absurd (never (omega (arith, q)) (omega (arith, p, q)))
 
-  below-longer : (i j e f : ℕ) → e ≤ f → BelowWithin O x i j e → BelowWithin O x i j f
+  pub below-longer : (i j e f : ℕ) → e ≤ f → BelowWithin O x i j e → BelowWithin O x i j f
   below-longer i j e f h w =
       record { offset = w .offset; inside = omega (arith, w .inside); agree = w .agree; smaller = w .smaller }
 
+  abbrev within-from : (i j e : ℕ) → BelowWithin O x i j e → BelowFrom O x i j
+  within-from i j e w = record { offset = w .offset; agree = w .agree; smaller = w .smaller }
+
   -- Below a span, and that below another: the earlier of the two differences decides.
-  pub below-trans : (i e k f : ℕ) → e ≤ k → BelowWithin O x i e f → BelowWithin O x e k f → BelowWithin O x i k f
-  below-trans i e k f h p q = go (decLt c d) (decLt d c)
-    where
-      c : ℕ
-      c = p .offset
-
-      d : ℕ
-      d = q .offset
-
-      go : Dec (c < d) → Dec (d < c) → BelowWithin O x i k f
-      go (yes l) m =
-          record {
-            offset = c;
-            inside = omega (arith, q .inside);
-            agree = agree-trans x i e k c (p .agree) (agree-less x e k d c (q .agree) (omega arith));
-            smaller = subst (λ (z : A). Smaller O (x (i + c)) z) (q .agree c l) (p .smaller);
-          }
-      go (no l) (yes m) =
-          record {
-            offset = d;
-            inside = q .inside;
-            agree = agree-trans x i e k d (agree-less x i e c d (p .agree) (omega arith)) (q .agree);
-            smaller = subst (λ (z : A). Smaller O z (x (k + d))) (sym (p .agree d m)) (q .smaller);
-          }
-      go (no l) (no m) =
-          let t : c ≡ d = omega (arith, l, m) in
-          record {
-            offset = d;
-            inside = q .inside;
-            agree = agree-trans x i e k d (agree-less x i e c d (p .agree) (omega arith)) (q .agree);
-            smaller =
-                smaller-trans O (x (i + d)) (x (e + d)) (x (k + d)) (subst (λ (z : ℕ). Smaller O (x (i + z)) (x (e + z))) t (p .smaller))
-                (q .smaller);
-          }
+  pub below-trans : (i e k f : ℕ) → BelowWithin O x i e f → BelowWithin O x e k f → BelowWithin O x i k f
+  below-trans i e k f p q =
+      let w = earlier-difference O x i e k (within-from i e f p) (within-from e k f q) in
+      record { offset = w .0 .offset; inside = omega (arith, w .1, q .inside); agree = w .0 .agree; smaller = w .0 .smaller }
 
   -- A smaller span that is followed by a greater Lyndon word is below it by a letter inside.
   less-below : (i e f : ℕ) → i < e → SpanLyndon O x e f → SpanLess O x i e e f → BelowWithin O x i e f
@@ -217,7 +190,7 @@ module _ {A : Type 0} (O : Letters A) (x : ℕ → A) (n : ℕ) where
 
       go : (k : ℕ) → i < k → k < f → Dec (k < e) → Dec (e < k) → BelowWithin O x i k f
       go k p q (yes l) m = below-longer i k e f (omega (arith, v .non-empty)) (u .below k p l)
-      go k p q (no l) (yes m) = below-trans i e k f (omega arith) seam (v .below k m q)
+      go k p q (no l) (yes m) = below-trans i e k f seam (v .below k m q)
       go k p q (no l) (no m) =
           let t : e ≡ k = omega (arith, l, m) in
           subst (λ (z : ℕ). BelowWithin O x i z f) t seam

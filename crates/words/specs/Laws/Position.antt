@@ -1,12 +1,18 @@
 -- Spans of one text compared by positions. A text is read as a function from positions to letters.
 -- Assumes nothing.
 use mathlib.Core.Path.{_≡_}
-use Prim.Native.Nat.{ℕ, _+_, _<_, _≤_}
+use Prim.Native.Nat.{ℕ, _+_, _<_}
 use Rattle.words.specs.Letters.{Letters, Smaller}
 
 -- The letters from i and from j on are the same below offset d.
 abbrev pub Agree : {A : Type 0} → (ℕ → A) → ℕ → ℕ → ℕ → Type 0
 Agree x i j d = (k : ℕ) → k < d → x (i + k) ≡ x (j + k)
+
+-- What stands at i in a sequence without end is below what stands at j.
+pub record BelowFrom {A : Type 0} (O : Letters A) (x : ℕ → A) (i j : ℕ) : Type 0 where
+  pub offset : ℕ
+  pub agree : Agree x i j offset
+  pub smaller : Smaller O (x (i + offset)) (x (j + offset))
 
 -- What stands at i is below what stands at j: they agree up to an offset inside the span that ends at e, and there i has the smaller letter.
 pub record BelowWithin {A : Type 0} (O : Letters A) (x : ℕ → A) (i j e : ℕ) : Type 0 where

@@ -8,6 +8,7 @@ use native.Mathlib.Omega.{arith}
 use native.Mathlib.Decide.{decLt}
 use lib.ListN.{length}
 use Rattle.words.specs.Letters.{Letters, reversed}
+use Rattle.words.specs.Laws.Runs.{entry-equal}
 use Rattle.words.specs.Runs.{Entry, IsRun}
 use Rattle.words.specs.Laws.SpanLyndon.{letters}
 use Rattle.words.specs.Laws.SuffixOrder.{NextSmaller}
@@ -23,9 +24,6 @@ ListedEntry O x n bound i r = ListedAt O x n bound i (r .start) (suc (r .last)) 
 -- The entry of a run from s to e of period p.
 abbrev pub entryOf : ℕ → ℕ → ℕ → Entry
 entryOf s e p = record { start = s; last = e - 1; period = p }
-
-pub entry-equal : (r t : Entry) → r .start ≡ t .start → r .last ≡ t .last → r .period ≡ t .period → r ≡ t
-entry-equal r t a b c = λ i. record { start = a i; last = b i; period = c i }
 
 -- The bound on ends for an order number: under order 0 runs may reach the end of the text, under order 1 not.
 abbrev pub endBound : ℕ → ℕ → ℕ

@@ -7,53 +7,18 @@ use native.Mathlib.Nat.{mod-lt, mod-eq-of-lt, add-mod-right}
 use native.Mathlib.Omega.{arith}
 use native.Mathlib.Decide.{decLt, ℕ-discrete}
 use Rattle.words.specs.Letters.{Letters, Smaller, Comparison, below, same, above, Means}
-use Rattle.words.specs.Laws.Letters.{smaller-trans, Compared}
-use Rattle.words.specs.Laws.Position.{Agree, BelowWithin, SpanLyndon}
-use Rattle.words.specs.Laws.SuffixOrder.{agree-sym, agree-trans, agree-less, agree-shift}
+use Rattle.words.specs.Laws.Letters.{Compared}
+use Rattle.words.specs.Laws.Position.{Agree, BelowFrom, BelowWithin, SpanLyndon}
+use Rattle.words.specs.Laws.SuffixOrder.{agree-sym, agree-shift, earlier-difference}
 use Rattle.words.specs.Laws.Compared.{AllCompared}
 use Rattle.words.specs.Laws.Periods.{SpanRun}
-
--- What stands at i in a sequence without end is below what stands at j.
-pub record BelowFrom {A : Type 0} (O : Letters A) (y : ℕ → A) (i j : ℕ) : Type 0 where
-  pub offset : ℕ
-  pub agree : Agree y i j offset
-  pub smaller : Smaller O (y (i + offset)) (y (j + offset))
 
 module _ {A : Type 0} (O : Letters A) (y : ℕ → A) where
   from-irrefl : (i : ℕ) → ¬ BelowFrom O y i i
   from-irrefl i w = w .smaller .0 refl
 
   from-trans : (i j k : ℕ) → BelowFrom O y i j → BelowFrom O y j k → BelowFrom O y i k
-  from-trans i j k p q = go (decLt c d) (decLt d c)
-    where
-      c : ℕ
-      c = p .offset
-
-      d : ℕ
-      d = q .offset
-
-      go : Dec (c < d) → Dec (d < c) → BelowFrom O y i k
-      go (yes l) m =
-          record {
-            offset = c;
-            agree = agree-trans y i j k c (p .agree) (agree-less y j k d c (q .agree) (omega arith));
-            smaller = subst (λ (z : A). Smaller O (y (i + c)) z) (q .agree c l) (p .smaller);
-          }
-      go (no l) (yes m) =
-          record {
-            offset = d;
-            agree = agree-trans y i j k d (agree-less y i j c d (p .agree) (omega arith)) (q .agree);
-            smaller = subst (λ (z : A). Smaller O z (y (k + d))) (sym (p .agree d m)) (q .smaller);
-          }
-      go (no l) (no m) =
-          let t : c ≡ d = omega (arith, l, m) in
-          record {
-            offset = d;
-            agree = agree-trans y i j k d (agree-less y i j c d (p .agree) (omega arith)) (q .agree);
-            smaller =
-                smaller-trans O (y (i + d)) (y (j + d)) (y (k + d)) (subst (λ (z : ℕ). Smaller O (y (i + z)) (y (j + z))) t (p .smaller))
-                (q .smaller);
-          }
+  from-trans i j k p q = earlier-difference O y i j k p q .0
 
   from-asym : (i j : ℕ) → BelowFrom O y i j → ¬ BelowFrom O y j i
   from-asym i j p q = from-irrefl i (from-trans i j i p q)

@@ -1,26 +1,23 @@
--- A text has one run list, and a run has one period.
+-- A text has one run list, and a run has one period; entries in order, and the numbers of a list of them.
 -- Assumes nothing.
 use mathlib.Core.Path.{_≡_, refl, sym, ap, subst}
 use mathlib.Core.Logic.{_⊎_, inl, inr}
 use mathlib.Core.List.{List, [], _∷_, _++_, List·Memᴰ, List·Memᴰ·head, List·Memᴰ·tail, List·Memᴰ·not-nil, List·Memᴰ·cases-cons}
-use Prim.Native.Nat.{ℕ, _*_, _<_}
+use Prim.Native.Nat.{ℕ, _*_, _<_, _≤_}
 use native.Mathlib.Omega.{arith}
 use lib.ListN.{length}
 use Rattle.words.specs.Runs.{HasPeriod, Run, Entry, Earlier, Sorted, IsRunList, numbers}
-
--- A property of positive numbers has at most one smallest.
-pub smallest-unique :
-    (P : ℕ → Type 0) (p q : ℕ) → 0 < p → 0 < q → P p → P q → ((k : ℕ) → 0 < k → k < p → ¬ P k)
-    → ((k : ℕ) → 0 < k → k < q → ¬ P k) → p ≡ q
-smallest-unique P p q h k a b f g =
-    let low : ¬ (p < q) = λ l. g p h l a in
-    let high : ¬ (q < p) = λ l. f q k l b in
-    omega arith
+use Rattle.words.specs.Laws.Numbers.{least-unique}
 
 -- Runs with one start and one end have one period.
 pub run-period-unique : {A : Type 0} {x : List A} {s e p q : ℕ} → Run x s e p → Run x s e q → p ≡ q
 run-period-unique {x = x} {s = s} {e = e} {p = p} {q = q} r t =
-    smallest-unique (HasPeriod x s e) p q (r .positive) (t .positive) (r .period) (t .period) (r .smallest) (t .smallest)
+    least-unique (λ k. (0 < k) × HasPeriod x s e k) (r .positive, r .period) (λ k l h. r .smallest k (h .0) l (h .1))
+    (t .positive, t .period) (λ k l h. t .smallest k (h .0) l (h .1))
+
+-- Entries with the same numbers are equal.
+pub entry-equal : (r t : Entry) → r .start ≡ t .start → r .last ≡ t .last → r .period ≡ t .period → r ≡ t
+entry-equal r t a b c = λ i. record { start = a i; last = b i; period = c i }
 
 -- Of two entries at most one is earlier than the other.
 pub earlier-not-both : (r t : Entry) → Earlier r t → Earlier t r → ⊥
@@ -77,3 +74,12 @@ numbers-append (r ∷ rs) ts = ap (λ (ns : List ℕ). r .start ∷ r .last ∷ 
 pub numbers-length : (rs : List Entry) → length (numbers rs) ≡ 3 * length rs
 numbers-length [] = refl
 numbers-length (r ∷ rs) = omega (arith, numbers-length rs)
+
+-- By start and then by last position, equal ones in any order.
+abbrev pub NotLater : Entry → Entry → Type 0
+NotLater r t = (r .start < t .start) ⊎ ((r .start ≡ t .start) × (r .last ≤ t .last))
+
+-- No entry is later than one that follows it.
+abbrev pub InOrder : List Entry → Type 0
+InOrder [] = Unit {0}
+InOrder (r ∷ rs) = ((t : Entry) → List·Memᴰ t rs → NotLater r t) × InOrder rs

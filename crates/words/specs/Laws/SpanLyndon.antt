@@ -3,16 +3,16 @@
 use mathlib.Core.Path.{_≡_, refl, sym, ap, subst, _∙_}
 use mathlib.Core.Logic.{_⊎_, inl, inr}
 use mathlib.Core.List.{List, [], _∷_, _++_}
-use Prim.Native.Nat.{ℕ, zero, suc, _+_, _-_, _<_, _≤_}
+use Prim.Native.Nat.{ℕ, _+_, _-_, _<_, _≤_}
 use native.Mathlib.Omega.{arith}
 use native.Mathlib.Decide.{decLt}
-use lib.ListN.{length, getD, take, drop, length-append, length-take, length-drop, take-append-drop, drop-of-length-le}
+use lib.ListN.{length, getD, take, drop, length-append, length-drop, take-append-drop, drop-of-length-le}
 use lib.Seq.{getD-take, getD-drop, drop-drop, drop-append-seam, drop-append-le, take-take, length-take-le}
 use Rattle.words.specs.Letters.{Letters, Smaller}
 use Rattle.words.specs.Word.{ProperPrefix, StronglyLess, Less, span}
 use Rattle.words.specs.Lyndon.{Lyndon}
 use Rattle.words.specs.Laws.Word.{Alike, DiffersAt, strongly-less-differs, differs-strongly-less, proper-prefix-alike, alike-proper-prefix}
-use Rattle.words.specs.Laws.Position.{Agree, BelowWithin, SpanLyndon, SpanLess, differs, shorter}
+use Rattle.words.specs.Laws.Position.{BelowWithin, SpanLyndon, SpanLess, differs, shorter}
 
 -- The letters of a list by position; z stands past the end.
 abbrev pub letters : {A : Type 0} → A → List A → ℕ → A

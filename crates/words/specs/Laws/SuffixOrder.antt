@@ -1,13 +1,12 @@
 -- The order of the suffixes of one text, and the next smaller suffix, which ends the longest Lyndon word.
 -- Assumes nothing.
 use mathlib.Core.Path.{_≡_, refl, sym, ap, subst, _∙_}
-use mathlib.Core.Logic.{_⊎_, inl, inr}
-use Prim.Native.Nat.{ℕ, zero, suc, _+_, _-_, _<_, _≤_}
+use Prim.Native.Nat.{ℕ, _+_, _-_, _<_, _≤_}
 use native.Mathlib.Omega.{arith}
-use native.Mathlib.Decide.{decLt, ℕ-discrete}
-use Rattle.words.specs.Letters.{Letters, Smaller, Comparison, below, same, above, Means}
-use Rattle.words.specs.Laws.Letters.{smaller-asym, smaller-trans, Compared}
-use Rattle.words.specs.Laws.Position.{Agree, BelowWithin, SpanLyndon, SpanLess, differs, shorter}
+use native.Mathlib.Decide.{decLt}
+use Rattle.words.specs.Letters.{Letters, Smaller}
+use Rattle.words.specs.Laws.Letters.{smaller-trans}
+use Rattle.words.specs.Laws.Position.{Agree, BelowFrom, BelowWithin}
 
 -- The suffix at i is smaller than the suffix at j, in a text of n letters: it ends first, or has the smaller letter where they first differ.
 pub data SuffixLess {A : Type 0} (O : Letters A) (x : ℕ → A) (n i j : ℕ) : Type 0 where
@@ -48,6 +47,44 @@ module _ {A : Type 0} (x : ℕ → A) where
           let a : i + k ≡ i + m + (k - m) = omega (arith, p) in
           let b : j + k ≡ j + m + (k - m) = omega (arith, p) in
           ap x a ∙ h (k - m) (omega (arith, p)) ∙ sym (ap x b)
+
+module _ {A : Type 0} (O : Letters A) (x : ℕ → A) where
+  -- Below a second, and that below a third: the earlier of the two differences decides, so none later than the second one.
+  pub earlier-difference : (i j k : ℕ) → BelowFrom O x i j → (q : BelowFrom O x j k) → (w : BelowFrom O x i k) × (w .offset ≤ q .offset)
+  earlier-difference i j k p q = go (decLt c d) (decLt d c)
+    where
+      c : ℕ
+      c = p .offset
+
+      d : ℕ
+      d = q .offset
+
+      go : Dec (c < d) → Dec (d < c) → (w : BelowFrom O x i k) × (w .offset ≤ q .offset)
+      go (yes l) m = (
+        record {
+          offset = c;
+          agree = agree-trans x i j k c (p .agree) (agree-less x j k d c (q .agree) (omega arith));
+          smaller = subst (λ (z : A). Smaller O (x (i + c)) z) (q .agree c l) (p .smaller);
+        },
+        omega arith,
+      )
+      go (no l) (yes m) = (
+        record {
+          offset = d;
+          agree = agree-trans x i j k d (agree-less x i j c d (p .agree) (omega arith)) (q .agree);
+          smaller = subst (λ (z : A). Smaller O z (x (k + d))) (sym (p .agree d m)) (q .smaller);
+        },
+        omega arith,
+      )
+      go (no l) (no m) =
+          let t : c ≡ d = omega (arith, l, m) in (
+            record {
+              offset = d;
+              agree = agree-trans x i j k d (agree-less x i j c d (p .agree) (omega arith)) (q .agree);
+              smaller = smaller-trans O (x (i + d)) (x (j + d)) (x (k + d)) (subst (λ (z : ℕ). Smaller O (x (i + z)) (x (j + z))) t (p .smaller)) (q .smaller);
+            },
+            omega arith,
+          )
 
 module _ {A : Type 0} (O : Letters A) (x : ℕ → A) (n : ℕ) where
   smaller-at : (i j i′ j′ : ℕ) → i ≡ i′ → j ≡ j′ → Smaller O (x i) (x j) → Smaller O (x i′) (x j′)

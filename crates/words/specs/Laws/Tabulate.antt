@@ -1,9 +1,10 @@
 -- The values of a function, one after another: their number, each of them, and two rows joined.
 -- Assumes nothing.
-use mathlib.Core.Path.{_≡_, refl, ap}
+use mathlib.Core.Path.{_≡_, refl, sym, ap, subst, _∙_}
 use mathlib.Core.List.{List, _∷_, _++_}
 use Prim.Native.Nat.{ℕ, zero, suc, _+_, _<_}
 use native.Mathlib.Omega.{arith}
+use native.Mathlib.Nat.{zero-add}
 use lib.ListN.{length, getD}
 use Rattle.words.specs.Tabulate.{tabulate}
 
@@ -30,3 +31,8 @@ tabulate-append f i (suc k) m =
     let e : i + suc k ≡ suc i + k = omega arith in
     let o : suc k + m ≡ suc (k + m) = omega arith in
     rw (e, o) (ap (λ (r : List ℕ). f i ∷ r) (tabulate-append f (suc i) k m))
+
+-- What holds of each value holds of each entry of the row.
+pub tabulate-each : (P : ℕ → ℕ → Type 0) (f : ℕ → ℕ) (n : ℕ) → ((i : ℕ) → i < n → P i (f i)) → (i : ℕ) → i < n → P i (getD (tabulate f 0 n) i 0)
+tabulate-each P f n h i l =
+    subst (P i) (sym (ap f (zero-add i)) ∙ sym (getD-tabulate f 0 n i l)) (h i l)

@@ -2,20 +2,11 @@
 -- Assumes nothing.
 use mathlib.Core.Path.{_≡_, refl, ap}
 use mathlib.Core.List.{List}
-use Prim.Native.Nat.{ℕ, _<_}
+use Prim.Native.Nat.{ℕ}
 use native.Mathlib.Omega.{arith}
-use native.Mathlib.Decide.{decLt}
 use Rattle.words.specs.ValidArray.{InRange, Crosses, Valid, Fault, zero-entry, long-entry, crossing, EarlierInRange, FirstFault}
+use Rattle.words.specs.Laws.Numbers.{least-unique}
 use Rattle.words.specs.Compute.ValidArray.{Verdict, fits, fault, HasVerdict, checkArray, checkArray-holds}
-
--- There is one least position at which P holds.
-least-unique : (P : ℕ → Type 0) {i j : ℕ} → P i → ((k : ℕ) → k < i → ¬ P k) → P j → ((k : ℕ) → k < j → ¬ P k) → i ≡ j
-least-unique P {i} {j} p below-i q below-j = go (decLt i j) (decLt j i)
-  where
-    go : Dec (i < j) → Dec (j < i) → i ≡ j
-    go (yes l) d = absurd (below-j i l p)
-    go (no n) (yes l) = absurd (below-i j l q)
-    go (no n) (no m) = omega (arith, n, m)
 
 module _ (a : List ℕ) where
   -- An entry that is 0, or too long, is not in range.

@@ -1,16 +1,13 @@
 -- The order of words by positions: the first offset at which two words differ.
 -- Assumes nothing.
 use mathlib.Core.Path.{_≡_, refl, sym, ap, subst, _∙_}
-use mathlib.Core.Logic.{_⊎_, inl, inr}
 use mathlib.Core.List.{List, [], _∷_, _++_}
-use Prim.Native.Nat.{ℕ, zero, suc, _+_, _-_, _<_, _≤_}
+use Prim.Native.Nat.{ℕ, suc, _+_, _<_, _≤_}
 use native.Mathlib.Omega.{arith}
-use native.Mathlib.Nat.{add-zero}
-use lib.ListN.{length, getD, take, drop, length-append, length-take, length-drop, take-append-drop, List·getD-append}
-use lib.Seq.{split-at, ext-getD, getD-take, getD-drop, getD-append-seam, getD-append-add, take-length, length-take-le}
+use lib.ListN.{length, getD, take, drop, length-append, length-drop, take-append-drop, List·getD-append}
+use lib.Seq.{split-at, ext-getD, getD-take, getD-append-seam, take-length, length-take-le}
 use Rattle.words.specs.Letters.{Letters, Smaller}
-use Rattle.words.specs.Word.{ProperPrefix, StronglyLess, Less}
-use Rattle.words.specs.Lyndon.{Lyndon}
+use Rattle.words.specs.Word.{ProperPrefix, StronglyLess}
 
 -- The two words have the same letters below offset d; z stands for a letter past the end.
 abbrev pub Alike : {A : Type 0} → A → List A → List A → ℕ → Type 0

@@ -1,0 +1,21 @@
+-- Properties of numbers: the least number that has one, and what holds of all numbers below a bound.
+-- Assumes nothing.
+use mathlib.Core.Path.{_≡_, subst}
+use Prim.Native.Nat.{ℕ, suc, _<_}
+use native.Mathlib.Omega.{arith}
+use native.Mathlib.Decide.{decLt}
+
+-- At most one number is the least at which P holds.
+pub least-unique : (P : ℕ → Type 0) {i j : ℕ} → P i → ((k : ℕ) → k < i → ¬ P k) → P j → ((k : ℕ) → k < j → ¬ P k) → i ≡ j
+least-unique P {i} {j} p below-i q below-j =
+    let low : ¬ (i < j) = λ l. below-j i l p in
+    let high : ¬ (j < i) = λ l. below-i j l q in
+    omega arith
+
+-- What holds below i, and at i, holds below i + 1.
+pub below-suc : (P : ℕ → Type 0) (i : ℕ) → ((k : ℕ) → k < i → P k) → P i → (k : ℕ) → k < suc i → P k
+below-suc P i below at k h = go (decLt k i)
+  where
+    go : Dec (k < i) → P k
+    go (yes l) = below k l
+    go (no n) = subst P (omega (arith, n)) at
