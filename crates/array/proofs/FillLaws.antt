@@ -3,7 +3,7 @@
 use mathlib.Core.Path.{_≡_, refl, sym, ap, subst, _∙_}
 use mathlib.Core.Logic.{_⊎_, inl, inr}
 use mathlib.Core.List.{List, [], _++_}
-use Prim.Native.Nat.{ℕ, zero, suc, _+_, _-_, _<_, _≤_}
+use Prim.Native.Nat.{ℕ, zero, suc, _+_, _-_, _<_, _≤_, min}
 use native.Mathlib.Omega.{arith}
 use native.Mathlib.Decide.{decLt, ℕ-discrete}
 use lib.ListN.{length, getD, set, take, drop, length-set, length-drop, take-append-drop}
@@ -20,6 +20,13 @@ use Rattle.array.specs.Core.Joining.{Rows, Joining, LastPart, Restoring,
 use Rattle.array.specs.Core.Join.{ChangedAfter, JoinedTo}
 use Rattle.array.specs.Core.Fill.{KeptFrom, Filled, HasRows, RestoredBelow, AllRestored}
 use Rattle.array.proofs.JoinLaws.{entry-own, restored-kept, restored-one, restored-length}
+
+-- The smaller of two numbers is at most each.
+pub min-left : (r a b : ℕ) → r ≡ min a b → r ≤ a
+min-left r a b e = omega arith
+
+pub min-right : (r a b : ℕ) → r ≡ min a b → r ≤ b
+min-right r a b e = omega arith
 
 -- Nothing is filled before the first position.
 pub filled-start : (order : ℕ) (x buf : List ℕ) → Filled order x buf buf (length x)

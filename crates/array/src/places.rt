@@ -1,6 +1,6 @@
 // The places of the output buffer while the array is being made: small functions that know nothing of letters.
 ghost use mathlib.Core.Path.{_≡_};
-ghost use Prim.Native.Nat.{_+_, _-_, _≤_, _<_};
+ghost use Prim.Native.Nat.{_+_, _-_, _≤_, _<_, min};
 ghost use lib.ListN.{length};
 ghost use Rattle.array.specs.Core.State.{rememberedAt, restoredAt, storedAt};
 ghost use Rattle.array.specs.Core.Fill.{HasRows, AllRestored};
@@ -14,7 +14,7 @@ pub(crate) fn wide(x: u32) -> usize
 
 // The smaller of two numbers.
 pub(crate) fn smaller_of(a: usize, b: usize) -> usize
-    ensures { λ r. ⌜ (r ≤ a) × (r ≤ b) ⌝ }
+    ensures { λ r. ⌜ r ≡ min a b ⌝ }
 {
     if a < b {
         return a;

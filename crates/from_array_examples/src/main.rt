@@ -4,6 +4,7 @@
 use check::expect;
 ghost use mathlib.Core.Path.{_≡_};
 ghost use mathlib.Core.Bool.{true};
+ghost use mathlib.Core.Logic.{_↔_};
 ghost use lib.ListN.{length};
 ghost use Rattle.words.specs.ValidArray.{textFor};
 ghost use Rattle.words.specs.ArrayForest.{forestFirst, forestPast};
@@ -13,7 +14,7 @@ ghost use Rattle.from_array.specs.Answers.{reconstructAnswer, rightForestAnswer
 
 // Whether both hold the same numbers.
 fn same(a: &[u32], b: &[u32]) -> bool
-    ensures { λ r. ⌜ (now (a .entry) ≡ now (b .entry) → r ≡ true) ⌝ }
+    ensures { λ r. ⌜ (r ≡ true) ↔ (now (a .entry) ≡ now (b .entry)) ⌝ }
 {
     if a.len() != b.len() {
         return false;

@@ -58,7 +58,7 @@ same-requires c κs = search needs
 expect-requires-3 : tie.Need-expect-requires-3
 expect-requires-3 c κs =
     let at-value = c .before .before .before in
-    c .same .ensures (left-first (at-value .before .before .before .before .before .before .before))
+    c .same .ensures .1 (left-first (at-value .before .before .before .before .before .before .before))
 
 same-requires-2 : tie.Need-same-requires-2
 same-requires-2 c κs = search needs
@@ -66,7 +66,7 @@ same-requires-2 c κs = search needs
 expect-requires-4 : tie.Need-expect-requires-4
 expect-requires-4 c κs =
     let at-value = c .before .before .before .before .before .before in
-    c .same2 .ensures (left-past (at-value .before .before .before .before .before .before .before))
+    c .same2 .ensures .1 (left-past (at-value .before .before .before .before .before .before .before))
 
 same-length : tie.Need-same-length
 same-length c = search needs

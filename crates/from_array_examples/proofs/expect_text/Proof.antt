@@ -48,7 +48,7 @@ same-requires : tie.Need-same-requires
 same-requires c κs = search needs
 
 expect-requires-3 : tie.Need-expect-requires-3
-expect-requires-3 c κs = c .same .ensures (left (c .before .before .before .before .before .before .before .before))
+expect-requires-3 c κs = c .same .ensures .1 (left (c .before .before .before .before .before .before .before .before))
 
 same-length : tie.Need-same-length
 same-length c = search needs

@@ -3,20 +3,13 @@
 use borrow.Author.Needs.{needs}
 use Rattle.lyndon_c.proofs.exported.Statement.{statement}
 use Rattle.lyndon_c.proofs.exported.Tie as tie
-use Rattle.lyndon_c.proofs.exported.Reads as reads
-use Rattle.lyndon_c.proofs.exported.Lts as lts
-use Rattle.answer.proofs.number.Reads as number-reads
-use Rattle.answer.proofs.value.Reads as value-reads
 
--- src/lib.rt:25:17
 number-requires : tie.Need-number-requires
 number-requires c κs = search needs
 
--- src/lib.rt:26:16
 value-requires : tie.Need-value-requires
 value-requires c κs = search needs
 
--- src/lib.rt:21:1
 returns : tie.Need-returns
 returns c = simp (c .before .number .ensures, c .value .ensures)
 

@@ -4,24 +4,16 @@ use Rattle.lyndon_c.proofs.HandedOn.{answer-handed-on, content-handed-o
 use borrow.Author.Needs.{needs}
 use Rattle.lyndon_c.proofs.lyndon_array_u32.Statement.{statement}
 use Rattle.lyndon_c.proofs.lyndon_array_u32.Tie as tie
-use Rattle.lyndon_c.proofs.lyndon_array_u32.Reads as reads
-use Rattle.lyndon_c.proofs.lyndon_array_u32.Lts as lts
-use Rattle.array.proofs.numbers.lyndon_array.Reads as lyndon-array-reads
-use Rattle.lyndon_c.proofs.exported.Reads as exported-reads
 
--- src/lib.rt:45:14
 lyndon-array-requires : tie.Need-lyndon-array-requires
 lyndon-array-requires c κs = search needs
 
--- src/lib.rt:45:5
 exported-requires : tie.Need-exported-requires
 exported-requires c κs = search needs
 
--- src/lib.rt:40:1
 same-length : tie.Need-same-length
 same-length c = search needs
 
--- src/lib.rt:40:1
 returns : tie.Need-returns
 returns c = let a = c .before .before .before .lyndon-array .ensures in (answer-handed-on _ _ _ (c .exported .ensures) (a .0), content-handed-on _ _ _ _ _ (a .0) (a .1))
 

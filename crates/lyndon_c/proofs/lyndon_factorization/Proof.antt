@@ -4,24 +4,16 @@ use Rattle.lyndon_c.proofs.HandedOn.{answer-handed-on, content-handed-o
 use borrow.Author.Needs.{needs}
 use Rattle.lyndon_c.proofs.lyndon_factorization.Statement.{statement}
 use Rattle.lyndon_c.proofs.lyndon_factorization.Tie as tie
-use Rattle.lyndon_c.proofs.lyndon_factorization.Reads as reads
-use Rattle.lyndon_c.proofs.lyndon_factorization.Lts as lts
-use Rattle.factors.proofs.factorization.factorization.Reads as factorization-reads
-use Rattle.lyndon_c.proofs.exported.Reads as exported-reads
 
--- src/lib.rt:68:14
 factorization-requires : tie.Need-factorization-requires
 factorization-requires c κs = search needs
 
--- src/lib.rt:68:5
 exported-requires : tie.Need-exported-requires
 exported-requires c κs = search needs
 
--- src/lib.rt:63:1
 same-length : tie.Need-same-length
 same-length c = search needs
 
--- src/lib.rt:63:1
 returns : tie.Need-returns
 returns c = let a = c .before .before .before .factorization .ensures in (answer-handed-on _ _ _ (c .exported .ensures) (a .0), content-handed-on _ _ _ _ _ (a .0) (a .1))
 

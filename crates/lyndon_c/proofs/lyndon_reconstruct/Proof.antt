@@ -4,24 +4,16 @@ use Rattle.lyndon_c.proofs.HandedOn.{answer-handed-on, content-handed-o
 use borrow.Author.Needs.{needs}
 use Rattle.lyndon_c.proofs.lyndon_reconstruct.Statement.{statement}
 use Rattle.lyndon_c.proofs.lyndon_reconstruct.Tie as tie
-use Rattle.lyndon_c.proofs.lyndon_reconstruct.Reads as reads
-use Rattle.lyndon_c.proofs.lyndon_reconstruct.Lts as lts
-use Rattle.from_array.proofs.reconstruct.Reads as reconstruct-reads
-use Rattle.lyndon_c.proofs.exported.Reads as exported-reads
 
--- src/lib.rt:109:14
 reconstruct-requires : tie.Need-reconstruct-requires
 reconstruct-requires c κs = search needs
 
--- src/lib.rt:109:5
 exported-requires : tie.Need-exported-requires
 exported-requires c κs = search needs
 
--- src/lib.rt:104:1
 same-length : tie.Need-same-length
 same-length c = search needs
 
--- src/lib.rt:104:1
 returns : tie.Need-returns
 returns c = let a = c .before .before .before .reconstruct .ensures in (answer-handed-on _ _ _ (c .exported .ensures) (a .0), content-handed-on _ _ _ _ _ (a .0) (a .1))
 

@@ -4,28 +4,19 @@ use Rattle.lyndon_c.proofs.HandedOn.{answer-handed-on, content-handed-o
 use borrow.Author.Needs.{needs}
 use Rattle.lyndon_c.proofs.lyndon_runs.Statement.{statement}
 use Rattle.lyndon_c.proofs.lyndon_runs.Tie as tie
-use Rattle.lyndon_c.proofs.lyndon_runs.Reads as reads
-use Rattle.lyndon_c.proofs.lyndon_runs.Lts as lts
-use Rattle.array.proofs.runs.runs.Reads as runs-reads
-use Rattle.lyndon_c.proofs.exported.Reads as exported-reads
 
--- src/lib.rt:54:14
 runs-requires : tie.Need-runs-requires
 runs-requires c κs = search needs
 
--- src/lib.rt:54:5
 exported-requires : tie.Need-exported-requires
 exported-requires c κs = search needs
 
--- src/lib.rt:48:1
 same-length : tie.Need-same-length
 same-length c = search needs
 
--- src/lib.rt:48:1
 same-length-2 : tie.Need-same-length-2
 same-length-2 c = search needs
 
--- src/lib.rt:48:1
 returns : tie.Need-returns
 returns c = let a = c .before .before .before .before .before .runs .ensures in (answer-handed-on _ _ _ (c .exported .ensures) (a .0), (content-handed-on _ _ _ _ _ (a .0) (a .1 .0), content-handed-on _ _ _ _ _ (a .0) (a .1 .1)))
 

@@ -4,24 +4,16 @@ use Rattle.lyndon_c.proofs.HandedOn.{answer-handed-on, content-handed-o
 use borrow.Author.Needs.{needs}
 use Rattle.lyndon_c.proofs.lyndon_suffix_table.Statement.{statement}
 use Rattle.lyndon_c.proofs.lyndon_suffix_table.Tie as tie
-use Rattle.lyndon_c.proofs.lyndon_suffix_table.Reads as reads
-use Rattle.lyndon_c.proofs.lyndon_suffix_table.Lts as lts
-use Rattle.factors.proofs.suffix_table.suffix_table.Reads as suffix-table-reads
-use Rattle.lyndon_c.proofs.exported.Reads as exported-reads
 
--- src/lib.rt:77:14
 suffix-table-requires : tie.Need-suffix-table-requires
 suffix-table-requires c κs = search needs
 
--- src/lib.rt:77:5
 exported-requires : tie.Need-exported-requires
 exported-requires c κs = search needs
 
--- src/lib.rt:72:1
 same-length : tie.Need-same-length
 same-length c = search needs
 
--- src/lib.rt:72:1
 returns : tie.Need-returns
 returns c = let a = c .before .before .before .suffix-table .ensures in (answer-handed-on _ _ _ (c .exported .ensures) (a .0), content-handed-on _ _ _ _ _ (a .0) (a .1))
 

@@ -7,8 +7,6 @@ use lib.ListN.{length}
 use Rattle.array.specs.CommonPrefix.{AlikeBelow, alike-none, alike-more, alike-is}
 use Rattle.array.proofs.agreement.common_prefix.Statement.{statement}
 use Rattle.array.proofs.agreement.common_prefix.Tie as tie
-use Rattle.array.proofs.agreement.common_prefix.Reads as reads
-use Rattle.array.proofs.agreement.common_prefix.Lts as lts
 
 abbrev Inv-loop : tie.InvT-loop
 Inv-loop u v k₀ k = AlikeBelow u v k
@@ -16,39 +14,30 @@ Inv-loop u v k₀ k = AlikeBelow u v k
 abbrev μ-loop : tie.MeasureT-loop
 μ-loop u v k₀ k = length u - k
 
--- src/agreement.rt:10:5
 loop-holds : tie.Need-loop-holds Inv-loop μ-loop
 loop-holds c = alike-none _ _
 
--- src/agreement.rt:12:16
 shared-slice-read-if2 : tie.Need-shared-slice-read-if2 Inv-loop μ-loop
 shared-slice-read-if2 c = search needs
 
--- src/agreement.rt:12:24
 shared-slice-read-if2-2 : tie.Need-shared-slice-read-if2-2 Inv-loop μ-loop
 shared-slice-read-if2-2 c = search needs
 
--- src/agreement.rt:13:17
 returns : tie.Need-returns Inv-loop μ-loop
 returns c = alike-is _ _ _ (c .before .before .before .before .before .loop .inv) (λ p q. c .if2 .taken)
 
--- src/agreement.rt:15:13
 add-k : tie.Need-add-k Inv-loop μ-loop
 add-k c = search needs
 
--- src/agreement.rt:10:5
 loop-less : tie.Need-loop-less Inv-loop μ-loop
 loop-less c = search needs
 
--- src/agreement.rt:10:5
 loop-again : tie.Need-loop-again Inv-loop μ-loop
 loop-again c = alike-more _ _ _ (c .before .before .before .before .before .loop .inv) (c .before .before .before .before .loop-test .taken) (c .before .before .before .if1 .taken) (c .if2 .left)
 
--- src/agreement.rt:17:13
 returns-2 : tie.Need-returns-2 Inv-loop μ-loop
 returns-2 c = alike-is _ _ _ (c .before .before .loop .inv) (λ p q. absurd (omega (arith, q, c .if1 .left)))
 
--- src/agreement.rt:6:1
 returns-3 : tie.Need-returns-3 Inv-loop μ-loop
 returns-3 c = alike-is _ _ _ (c .before .loop .inv) (λ p q. absurd (omega (arith, p, c .loop-test .left)))
 

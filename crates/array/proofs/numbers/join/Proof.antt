@@ -14,12 +14,6 @@ use Rattle.array.specs.declared.joined.Comparison.{Comparison}
 use Rattle.array.proofs.JoinLaws.{Comparing, comparing, factor-fits, ended-same, ended-above, past-below, letter-below, letter-above, agree-more, word-below, leap-below, join-start, join-step, joined-same, joined-above, joined-end}
 use Rattle.array.proofs.numbers.join.Statement.{statement}
 use Rattle.array.proofs.numbers.join.Tie as tie
-use Rattle.array.proofs.numbers.join.Reads as reads
-use Rattle.array.proofs.numbers.join.Lts as lts
-use Rattle.array.proofs.numbers.smaller.Reads as smaller-reads
-use Rattle.array.proofs.places.remembered.Reads as remembered-reads
-use Rattle.array.proofs.places.restore.Reads as restore-reads
-use Rattle.array.proofs.places.wide.Reads as wide-reads
 
 abbrev Inv-loop2 : tie.InvT-loop2
 Inv-loop2 text order buf i n j k₀ g l d s k = Agreeing text i j k
@@ -56,167 +50,126 @@ told c =
     (λ r. simp (r .10, r .11) (leap-below _ _ _ _ _ _ _ _ _ _ (at-comparison (c .before .before)) _ (agree-more _ _ _ _ _ _ _ _ _ _ (at-comparison (c .before .before)) _ (c .before .loop2 .inv) (r .0 .left) (r .3 .left)) (r .4 .taken) (r .5 .taken) (r .6 .left) (rw (r .8 .ensures) at (r .9 .taken)))))))))
     (c .if1 .came)
 
--- src/numbers.rt:35:17
 add-j : tie.Need-add-j Inv-loop2 μ-loop2 Inv-loop μ-loop
 add-j c = search needs
 
--- src/numbers.rt:38:5
 loop-holds : tie.Need-loop-holds Inv-loop2 μ-loop2 Inv-loop μ-loop
 loop-holds c = join-start _ _ _ _ (c .before .before .pre .0) (c .before .before .pre .3)
 
--- src/numbers.rt:39:30
 mul-wide : tie.Need-mul-wide Inv-loop2 μ-loop2 Inv-loop μ-loop
 mul-wide c = search needs
 
--- src/numbers.rt:39:30
 slice-read-wide : tie.Need-slice-read-wide Inv-loop2 μ-loop2 Inv-loop μ-loop
 slice-read-wide c = search needs
 
--- src/numbers.rt:39:13
 wide-requires : tie.Need-wide-requires Inv-loop2 μ-loop2 Inv-loop μ-loop
 wide-requires c κs = search needs
 
--- src/numbers.rt:40:17
 sub-d : tie.Need-sub-d Inv-loop2 μ-loop2 Inv-loop μ-loop
 sub-d c = search needs
 
--- src/numbers.rt:41:13
 remembered-requires : tie.Need-remembered-requires Inv-loop2 μ-loop2 Inv-loop μ-loop
 remembered-requires c κs = factor-fits _ _ _ _ _ _ _ _ _ (c .before .before .before .before .loop .inv) (c .before .before .before .loop-test .taken) (c .before .before .before .before .before .before .before .pre .1) (c .before .wide .ensures)
 
--- src/numbers.rt:43:13
 loop2-holds : tie.Need-loop2-holds Inv-loop2 μ-loop2 Inv-loop μ-loop
 loop2-holds c = record { agree = c .before .before .before .before .before .loop .inv .joining .agree (c .before .before .before .before .loop-test .taken); within = c .before .before .before .before .before .loop .inv .joining .within (c .before .before .before .before .loop-test .taken) }
 
--- src/numbers.rt:50:26
 add-a : tie.Need-add-a Inv-loop2 μ-loop2 Inv-loop μ-loop
 add-a c = omega (arith, at-comparison (c .before .before))
 
--- src/numbers.rt:50:21
 mul-a : tie.Need-mul-a Inv-loop2 μ-loop2 Inv-loop μ-loop
 mul-a c = omega (arith, at-comparison (c .before .before))
 
--- src/numbers.rt:50:21
 shared-slice-read-a : tie.Need-shared-slice-read-a Inv-loop2 μ-loop2 Inv-loop μ-loop
 shared-slice-read-a c = omega (arith, at-comparison (c .before .before .before))
 
--- src/numbers.rt:51:26
 add-b : tie.Need-add-b Inv-loop2 μ-loop2 Inv-loop μ-loop
 add-b c = omega (arith, at-comparison (c .before .before .before))
 
--- src/numbers.rt:51:21
 mul-b : tie.Need-mul-b Inv-loop2 μ-loop2 Inv-loop μ-loop
 mul-b c = omega (arith, at-comparison (c .before .before .before))
 
--- src/numbers.rt:51:21
 shared-slice-read-b : tie.Need-shared-slice-read-b Inv-loop2 μ-loop2 Inv-loop μ-loop
 shared-slice-read-b c = omega (arith, at-comparison (c .before .before .before .before))
 
--- src/numbers.rt:56:20
 smaller-requires : tie.Need-smaller-requires Inv-loop2 μ-loop2 Inv-loop μ-loop
 smaller-requires c κs = search needs
 
--- src/numbers.rt:61:13
 add-k : tie.Need-add-k Inv-loop2 μ-loop2 Inv-loop μ-loop
 add-k c = search needs
 
--- src/numbers.rt:67:45
 add-wide : tie.Need-add-wide Inv-loop2 μ-loop2 Inv-loop μ-loop
 add-wide c = search needs
 
--- src/numbers.rt:67:41
 mul-wide-2 : tie.Need-mul-wide-2 Inv-loop2 μ-loop2 Inv-loop μ-loop
 mul-wide-2 c = search needs
 
--- src/numbers.rt:67:41
 slice-read-wide-2 : tie.Need-slice-read-wide-2 Inv-loop2 μ-loop2 Inv-loop μ-loop
 slice-read-wide-2 c = omega (arith, at-comparison (c .before .before .before .before .before .before .before .before .before), c .before .before .if7 .taken)
 
--- src/numbers.rt:67:28
 wide-requires-2 : tie.Need-wide-requires-2 Inv-loop2 μ-loop2 Inv-loop μ-loop
 wide-requires-2 c κs = search needs
 
--- src/numbers.rt:67:24
 add-if9 : tie.Need-add-if9 Inv-loop2 μ-loop2 Inv-loop μ-loop
 add-if9 c = omega (arith, at-comparison (c .before .before .before .before .before .before .before .before .before .before), c .wide2 .ensures, c .before .slice-known3 .given (c .before .before .before .before .before .before .before .before .before .before .before .before .before .before .before .loop .j + (c .before .before .before .before .before .before .before .before .before .before .before .before .before .before .before .loop .j - c .before .before .before .before .before .before .before .before .before .before .before .before .before .before .before .before .before .before .args .i)))
 
--- src/numbers.rt:68:29
 add-k-2 : tie.Need-add-k-2 Inv-loop2 μ-loop2 Inv-loop μ-loop
 add-k-2 c = omega (arith, at-comparison (c .before .before .before .before .before .before .before .before .before .before .before))
 
--- src/numbers.rt:43:13
 loop2-less : tie.Need-loop2-less Inv-loop2 μ-loop2 Inv-loop μ-loop
 loop2-less c = search needs
 
--- src/numbers.rt:43:13
 loop2-again : tie.Need-loop2-again Inv-loop2 μ-loop2 Inv-loop μ-loop
 loop2-again c = agree-more _ _ _ _ _ _ _ _ _ _ (at-comparison (c .before .before .before .before .before .before .before .before .before .before .before)) _ (c .before .before .before .before .before .before .before .before .before .before .loop2 .inv) (c .before .before .before .before .before .before .before .before .before .if1 .left) (c .before .before .before .before .before .before .if3 .left)
 
--- src/numbers.rt:43:13
 loop2-less-2 : tie.Need-loop2-less-2 Inv-loop2 μ-loop2 Inv-loop μ-loop
 loop2-less-2 c = search needs
 
--- src/numbers.rt:43:13
 loop2-again-2 : tie.Need-loop2-again-2 Inv-loop2 μ-loop2 Inv-loop μ-loop
 loop2-again-2 c = agree-more _ _ _ _ _ _ _ _ _ _ (at-comparison (c .before .before .before .before .before .before .before)) _ (c .before .before .before .before .before .before .loop2 .inv) (c .before .before .before .before .before .if1 .left) (c .before .before .if3 .left)
 
--- src/numbers.rt:43:13
 loop2-less-3 : tie.Need-loop2-less-3 Inv-loop2 μ-loop2 Inv-loop μ-loop
 loop2-less-3 c = search needs
 
--- src/numbers.rt:43:13
 loop2-again-3 : tie.Need-loop2-again-3 Inv-loop2 μ-loop2 Inv-loop μ-loop
 loop2-again-3 c = agree-more _ _ _ _ _ _ _ _ _ _ (at-comparison (c .before .before .before .before .before .before)) _ (c .before .before .before .before .before .loop2 .inv) (c .before .before .before .before .if1 .left) (c .before .if3 .left)
 
--- src/numbers.rt:76:33
 enum-told : tie.Need-enum-told Inv-loop2 μ-loop2 Inv-loop μ-loop
 enum-told c = search needs
 
--- src/numbers.rt:76:17
 restore-requires : tie.Need-restore-requires Inv-loop2 μ-loop2 Inv-loop μ-loop
 restore-requires c κs = omega (arith, at-comparison (c .before .before .before .before .before))
 
--- src/numbers.rt:81:17
 add-j-2 : tie.Need-add-j-2 Inv-loop2 μ-loop2 Inv-loop μ-loop
 add-j-2 c = omega (arith, at-comparison (c .before .before .before .before .before .before .before .before .before))
 
--- src/numbers.rt:38:5
 loop-less : tie.Need-loop-less Inv-loop2 μ-loop2 Inv-loop μ-loop
 loop-less c = omega (arith, at-comparison (c .before .before .before .before .before .before .before .before .before))
 
--- src/numbers.rt:38:5
 loop-again : tie.Need-loop-again Inv-loop2 μ-loop2 Inv-loop μ-loop
 loop-again c = rw (c .before .before .before .restore .ensures) (join-step _ _ _ _ _ _ _ _ _ _ (at-comparison (c .before .before .before .before .before .before .before .before .before)) (c .before .before .before .before .before .before .before .if1 .k) (c .if10 .k) (subst (λ (v : Comparison). Compared (c .before .before .before .before .before .before .before .before .before .before .before .before .before .before .before .before .before .args .order) (c .before .before .before .before .before .before .before .before .before .before .before .before .before .before .before .before .before .args .text .now) (c .before .before .before .before .before .before .before .before .before .before .before .before .before .before .before .before .before .args .i) (c .before .before .before .before .before .before .before .before .before .before .before .before .before .before .loop .j) (c .before .before .before .before .before .before .before .if1 .k) v) (c .before .before .before .before .before .enum-told .given .1) (told (c .before .before .before .before .before .before .before))) (⊎-elim (λ r. omega (arith, r .0 .taken, r .1)) (λ r. omega (arith, r .1)) (c .if10 .came)) (⊎-elim (λ r. omega (arith, r .1)) (λ r. omega (arith, r .0 .left, r .1)) (c .if10 .came)))
 
--- src/numbers.rt:88:27
 enum-told-2 : tie.Need-enum-told-2 Inv-loop2 μ-loop2 Inv-loop μ-loop
 enum-told-2 c = search needs
 
--- src/numbers.rt:84:17
 same-length : tie.Need-same-length Inv-loop2 μ-loop2 Inv-loop μ-loop
 same-length c = search needs
 
--- src/numbers.rt:84:17
 returns : tie.Need-returns Inv-loop2 μ-loop2 Inv-loop μ-loop
 returns c = joined-same _ _ _ _ _ _ _ _ _ _ (at-comparison (c .before .before .before .before)) _ (subst (λ (v : Comparison). Compared (c .before .before .before .before .before .before .before .before .before .before .before .before .args .order) (c .before .before .before .before .before .before .before .before .before .before .before .before .args .text .now) (c .before .before .before .before .before .before .before .before .before .before .before .before .args .i) (c .before .before .before .before .before .before .before .before .before .loop .j) (c .before .before .if1 .k) v) (c .enum-told2 .given .1) (told (c .before .before)))
 
--- src/numbers.rt:96:27
 enum-told-3 : tie.Need-enum-told-3 Inv-loop2 μ-loop2 Inv-loop μ-loop
 enum-told-3 c = search needs
 
--- src/numbers.rt:92:17
 same-length-2 : tie.Need-same-length-2 Inv-loop2 μ-loop2 Inv-loop μ-loop
 same-length-2 c = search needs
 
--- src/numbers.rt:92:17
 returns-2 : tie.Need-returns-2 Inv-loop2 μ-loop2 Inv-loop μ-loop
 returns-2 c = joined-above _ _ _ _ _ _ _ _ _ _ (at-comparison (c .before .before .before .before)) _ (subst (λ (v : Comparison). Compared (c .before .before .before .before .before .before .before .before .before .before .before .before .args .order) (c .before .before .before .before .before .before .before .before .before .before .before .before .args .text .now) (c .before .before .before .before .before .before .before .before .before .before .before .before .args .i) (c .before .before .before .before .before .before .before .before .before .loop .j) (c .before .before .if1 .k) v) (c .enum-told3 .given .1) (told (c .before .before)))
 
--- src/numbers.rt:30:1
 same-length-3 : tie.Need-same-length-3 Inv-loop2 μ-loop2 Inv-loop μ-loop
 same-length-3 c = search needs
 
--- src/numbers.rt:30:1
 returns-3 : tie.Need-returns-3 Inv-loop2 μ-loop2 Inv-loop μ-loop
 returns-3 c = joined-end _ _ _ _ _ _ _ _ (c .before .loop .inv) (c .loop-test .left)
 

@@ -3,14 +3,10 @@
 use borrow.Author.Tests.{eq-eqb, ne-eqb}
 use Rattle.array.proofs.numbers.smaller.Statement.{statement}
 use Rattle.array.proofs.numbers.smaller.Tie as tie
-use Rattle.array.proofs.numbers.smaller.Reads as reads
-use Rattle.array.proofs.numbers.smaller.Lts as lts
 
--- src/numbers.rt:17:9
 returns : tie.Need-returns
 returns c = simp (eq-eqb _ _ (c .if1 .taken))
 
--- src/numbers.rt:13:1
 returns-2 : tie.Need-returns-2
 returns-2 c = simp (ne-eqb _ _ (c .if1 .left))
 

@@ -2,34 +2,25 @@ use borrow.Author.Needs.{needs}
 use borrow.Author.Tests.{lt-ltb, le-ltb}
 use Rattle.array.proofs.places.restore.Statement.{statement}
 use Rattle.array.proofs.places.restore.Tie as tie
-use Rattle.array.proofs.places.restore.Reads as reads
-use Rattle.array.proofs.places.restore.Lts as lts
 
--- src/places.rt:31:13
 add-buf : tie.Need-add-buf
 add-buf c = search needs
 
--- src/places.rt:31:13
 sub-buf : tie.Need-sub-buf
 sub-buf c = search needs
 
--- src/places.rt:31:9
 mul-buf : tie.Need-mul-buf
 mul-buf c = search needs
 
--- src/places.rt:31:9
 slice-write-buf : tie.Need-slice-write-buf
 slice-write-buf c = search needs
 
--- src/places.rt:26:1
 same-length : tie.Need-same-length
 same-length c = search needs
 
--- src/places.rt:26:1
 returns : tie.Need-returns
 returns c = simp (lt-ltb _ _ (c .if1 .taken))
 
--- src/places.rt:26:1
 returns-2 : tie.Need-returns-2
 returns-2 c = simp (le-ltb _ _ (c .if1 .left))
 

@@ -7,10 +7,6 @@ use Rattle.array.specs.Core.Fill.{RestoredBelow}
 use Rattle.array.proofs.FillLaws.{restored-start, factor-at, restored-step, all-restored}
 use Rattle.array.proofs.places.restore_all.Statement.{statement}
 use Rattle.array.proofs.places.restore_all.Tie as tie
-use Rattle.array.proofs.places.restore_all.Reads as reads
-use Rattle.array.proofs.places.restore_all.Lts as lts
-use Rattle.array.proofs.places.restore.Reads as restore-reads
-use Rattle.array.proofs.places.wide.Reads as wide-reads
 
 abbrev Inv-loop : tie.InvT-loop
 Inv-loop buf₀ n j₀ buf j = RestoredBelow buf₀ buf n j
@@ -18,43 +14,33 @@ Inv-loop buf₀ n j₀ buf j = RestoredBelow buf₀ buf n j
 abbrev μ-loop : tie.MeasureT-loop
 μ-loop buf₀ n j₀ buf j = n - j
 
--- src/places.rt:64:5
 loop-holds : tie.Need-loop-holds Inv-loop μ-loop
 loop-holds c = restored-start _ _
 
--- src/places.rt:65:22
 mul-wide : tie.Need-mul-wide Inv-loop μ-loop
 mul-wide c = search needs
 
--- src/places.rt:65:22
 slice-read-wide : tie.Need-slice-read-wide Inv-loop μ-loop
 slice-read-wide c = omega (arith, c .before .before .before .before .pre .inside, c .before .before .loop .inv .others .size)
 
--- src/places.rt:65:13
 wide-requires : tie.Need-wide-requires Inv-loop μ-loop
 wide-requires c κs = search needs
 
--- src/places.rt:66:9
 restore-requires : tie.Need-restore-requires Inv-loop μ-loop
 restore-requires c κs = let f = factor-at _ _ _ _ _ (c .before .before .before .before .before .before .pre) (c .before .before .before .before .loop .inv) (c .before .before .before .loop-test .taken) (c .before .wide .ensures) in omega (arith, f)
 
--- src/places.rt:67:9
 add-j : tie.Need-add-j Inv-loop μ-loop
 add-j c = let f = factor-at _ _ _ _ _ (c .before .before .before .before .before .before .before .before .before .pre) (c .before .before .before .before .before .before .before .loop .inv) (c .before .before .before .before .before .before .loop-test .taken) (c .before .before .before .before .wide .ensures) in omega (arith, f)
 
--- src/places.rt:64:5
 loop-less : tie.Need-loop-less Inv-loop μ-loop
 loop-less c = let f = factor-at _ _ _ _ _ (c .before .before .before .before .before .before .before .before .before .pre) (c .before .before .before .before .before .before .before .loop .inv) (c .before .before .before .before .before .before .loop-test .taken) (c .before .before .before .before .wide .ensures) in omega (arith, f)
 
--- src/places.rt:64:5
 loop-again : tie.Need-loop-again Inv-loop μ-loop
 loop-again c = rw (c .before .before .restore .ensures) (restored-step _ _ _ _ _ (c .before .before .before .before .before .before .before .before .before .pre) (c .before .before .before .before .before .before .before .loop .inv) (c .before .before .before .before .before .before .loop-test .taken) (c .before .before .before .before .wide .ensures))
 
--- src/places.rt:59:1
 same-length : tie.Need-same-length Inv-loop μ-loop
 same-length c = c .before .loop .inv .others .size
 
--- src/places.rt:59:1
 returns : tie.Need-returns Inv-loop μ-loop
 returns c = all-restored _ _ _ _ (c .before .loop .inv) (c .loop-test .left)
 

@@ -6,54 +6,40 @@ use lib.ListN.{length-set}
 use borrow.Author.Needs.{needs}
 use Rattle.array.proofs.places.store.Statement.{statement}
 use Rattle.array.proofs.places.store.Tie as tie
-use Rattle.array.proofs.places.store.Reads as reads
-use Rattle.array.proofs.places.store.Lts as lts
 
--- src/places.rt:51:13
 sub-l : tie.Need-sub-l
 sub-l c = search needs
 
--- src/places.rt:52:14
 cast-buf : tie.Need-cast-buf
 cast-buf c = search needs
 
--- src/places.rt:52:5
 mul-buf : tie.Need-mul-buf
 mul-buf c = search needs
 
--- src/places.rt:52:5
 slice-write-buf : tie.Need-slice-write-buf
 slice-write-buf c = search needs
 
--- src/places.rt:54:22
 cast-buf-2 : tie.Need-cast-buf-2
 cast-buf-2 c = omega (arith, c .before .pre .3 (c .if1 .taken))
 
--- src/places.rt:54:13
 sub-buf : tie.Need-sub-buf
 sub-buf c = search needs
 
--- src/places.rt:54:9
 mul-buf-2 : tie.Need-mul-buf-2
 mul-buf-2 c = search needs
 
--- src/places.rt:54:9
 slice-write-buf-2 : tie.Need-slice-write-buf-2
 slice-write-buf-2 c = simp length-set (omega arith)
 
--- src/places.rt:47:1
 same-length : tie.Need-same-length
 same-length c = search needs
 
--- src/places.rt:47:1
 returns : tie.Need-returns
 returns c = simp (lt-ltb _ _ (c .if1 .taken))
 
--- src/places.rt:47:1
 same-length-2 : tie.Need-same-length-2
 same-length-2 c = search needs
 
--- src/places.rt:47:1
 returns-2 : tie.Need-returns-2
 returns-2 c = simp (le-ltb _ _ (c .if1 .left))
 

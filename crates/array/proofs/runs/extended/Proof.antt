@@ -5,92 +5,67 @@ use Rattle.array.proofs.RunLaws.{extended-end, extended-letter, extende
 use borrow.Author.Needs.{needs}
 use Rattle.array.proofs.runs.extended.Statement.{statement}
 use Rattle.array.proofs.runs.extended.Tie as tie
-use Rattle.array.proofs.runs.extended.Reads as reads
-use Rattle.array.proofs.runs.extended.Lts as lts
-use Rattle.array.proofs.agreement.common_prefix.Reads as common-prefix-reads
-use Rattle.array.proofs.places.wide.Reads as wide-reads
 
--- src/runs.rt:20:9
 returns : tie.Need-returns
 returns c = extended-end _ _ _ _ _ _ (c .before .before .before .pre) (c .if1 .taken)
 
--- src/runs.rt:24:38
 enum-told : tie.Need-enum-told
 enum-told c = search needs
 
--- src/runs.rt:24:38
 mul-wide : tie.Need-mul-wide
 mul-wide c = search needs
 
--- src/runs.rt:24:38
 shared-slice-read-wide : tie.Need-shared-slice-read-wide
 shared-slice-read-wide c = search needs
 
--- src/runs.rt:24:25
 wide-requires : tie.Need-wide-requires
 wide-requires c κs = search needs
 
--- src/runs.rt:25:17
 returns-2 : tie.Need-returns-2
 returns-2 c = extended-letter _ _ _ _ _ _ (c .before .before .before .enum-told .given .1) (c .before .before .before .before .before .before .before .before .pre) (c .before .before .before .before .before .if1 .left) (omega (arith, c .if2 .taken, c .before .wide .ensures))
 
--- src/runs.rt:27:27
 add-u : tie.Need-add-u
 add-u c = omega (arith, c .before .before .before .before .before .before .before .before .pre .agreeing (c .before .before .before .before .before .if1 .left) .within, c .before .before .before .before .before .before .before .before .pre .after, c .before .before .before .before .before .before .before .before .pre .inside)
 
--- src/runs.rt:27:21
 sub-u : tie.Need-sub-u
 sub-u c = omega (arith, c .before .before .before .before .before .before .before .before .pre .agreeing (c .before .before .before .before .before .if1 .left) .within, c .before .before .before .before .before .before .before .before .pre .after, c .before .before .before .before .before .before .before .before .pre .inside)
 
--- src/runs.rt:27:21
 part-u-start : tie.Need-part-u-start
 part-u-start c = omega (arith, c .before .before .before .before .before .before .before .before .pre .agreeing (c .before .before .before .before .before .if1 .left) .within, c .before .before .before .before .before .before .before .before .pre .after, c .before .before .before .before .before .before .before .before .pre .inside)
 
--- src/runs.rt:27:21
 part-u-end : tie.Need-part-u-end
 part-u-end c = search needs
 
--- src/runs.rt:28:27
 add-v : tie.Need-add-v
 add-v c = omega (arith, c .before .before .before .before .before .before .before .before .before .pre .agreeing (c .before .before .before .before .before .before .if1 .left) .within, c .before .before .before .before .before .before .before .before .before .pre .after, c .before .before .before .before .before .before .before .before .before .pre .inside)
 
--- src/runs.rt:28:21
 sub-v : tie.Need-sub-v
 sub-v c = omega (arith, c .before .before .before .before .before .before .before .before .before .pre .agreeing (c .before .before .before .before .before .before .if1 .left) .within, c .before .before .before .before .before .before .before .before .before .pre .after, c .before .before .before .before .before .before .before .before .before .pre .inside)
 
--- src/runs.rt:28:21
 part-v-start : tie.Need-part-v-start
 part-v-start c = omega (arith, c .before .before .before .before .before .before .before .before .before .pre .agreeing (c .before .before .before .before .before .before .if1 .left) .within, c .before .before .before .before .before .before .before .before .before .pre .after, c .before .before .before .before .before .before .before .before .before .pre .inside)
 
--- src/runs.rt:28:21
 part-v-end : tie.Need-part-v-end
 part-v-end c = search needs
 
--- src/runs.rt:29:22
 common-prefix-requires : tie.Need-common-prefix-requires
 common-prefix-requires c κs = search needs
 
--- src/runs.rt:29:13
 add-result : tie.Need-add-result
 add-result c = omega (arith, further-fits _ _ _ _ _ _ (c .before .before .before .before .before .before .before .before .before .before .before .pre) (c .before .before .before .before .before .before .before .before .if1 .left) _ (c .common-prefix .ensures))
 
--- src/runs.rt:31:29
 enum-told-2 : tie.Need-enum-told-2
 enum-told-2 c = search needs
 
--- src/runs.rt:32:30
 enum-told-3 : tie.Need-enum-told-3
 enum-told-3 c = search needs
 
--- src/runs.rt:15:1
 returns-3 : tie.Need-returns-3
 returns-3 c = extended-further _ _ _ _ _ _ (c .before .before .before .before .before .before .enum-told .given .1) (c .before .before .before .before .before .before .before .before .before .before .before .pre) (c .before .before .before .before .before .before .before .before .if1 .left) _ (c .common-prefix .ensures)
 
--- src/runs.rt:15:1
 returns-4 : tie.Need-returns-4
 returns-4 c = extended-same _ _ _ _ _ _ (c .enum-told2 .given .1) (c .before .before .before .before .before .pre) (c .before .before .if1 .left)
 
--- src/runs.rt:15:1
 returns-5 : tie.Need-returns-5
 returns-5 c = extended-below (c .before .before .before .before .before .args .text .now) (c .before .before .before .before .before .args .buf .now) _ _ _ _ (c .enum-told3 .given .1)
 

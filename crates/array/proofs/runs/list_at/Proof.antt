@@ -6,60 +6,43 @@ use Rattle.array.proofs.RunLaws.{too-short, at-text-end, run-found}
 use borrow.Author.Needs.{needs}
 use Rattle.array.proofs.runs.list_at.Statement.{statement}
 use Rattle.array.proofs.runs.list_at.Tie as tie
-use Rattle.array.proofs.runs.list_at.Reads as reads
-use Rattle.array.proofs.runs.list_at.Lts as lts
-use Rattle.array.proofs.runs.start_of.Reads as start-of-reads
-use Rattle.array.proofs.runs.write_entry.Reads as write-entry-reads
 
--- src/runs.rt:66:13
 sub-p : tie.Need-sub-p
 sub-p c = search needs
 
--- src/runs.rt:67:9
 start-of-requires : tie.Need-start-of-requires
 start-of-requires c κs = search needs
 
--- src/runs.rt:68:8
 sub-if1 : tie.Need-sub-if1
 sub-if1 c = search needs
 
--- src/runs.rt:68:8
 add-if1 : tie.Need-add-if1
 add-if1 c = search needs
 
--- src/runs.rt:69:9
 returns : tie.Need-returns
 returns c = too-short _ _ _ _ _ _ _ _ (c .before .before .before .before .pre .0) (c .before .start-of .ensures) (c .if1 .taken)
 
--- src/runs.rt:72:12
 add-if3 : tie.Need-add-if3
 add-if3 c = search needs
 
--- src/runs.rt:73:13
 returns-2 : tie.Need-returns-2
 returns-2 c = at-text-end _ _ _ _ _ _ _ _ (c .before .before .before .before .before .before .pre .0) (c .before .before .before .start-of .ensures) (c .before .if2 .taken) (c .if3 .taken)
 
--- src/runs.rt:76:33
 add-write-entry : tie.Need-add-write-entry
 add-write-entry c = search needs
 
--- src/runs.rt:76:33
 sub-write-entry : tie.Need-sub-write-entry
 sub-write-entry c = search needs
 
--- src/runs.rt:76:5
 write-entry-requires : tie.Need-write-entry-requires
 write-entry-requires c κs = search needs
 
--- src/runs.rt:77:5
 add-result : tie.Need-add-result
 add-result c = search needs
 
--- src/runs.rt:62:1
 same-length : tie.Need-same-length
 same-length c = search needs
 
--- src/runs.rt:62:1
 returns-3 : tie.Need-returns-3
 returns-3 c = run-found _ _ _ _ _ _ _ _ (c .before .before .before .before .before .before .before .before .before .pre .0) (c .before .before .before .before .before .before .start-of .ensures) (c .before .before .before .before .before .if1 .left) (λ h. ⊎-elim (λ r. omega (arith, r .1 .left, c .before .before .before .before .before .before .before .before .before .pre .0 .exact .within)) (λ r. absurd (omega (arith, h, r .left))) (c .before .before .before .before .if2 .came)) _ (c .before .before .write-entry .ensures)
 

@@ -5,28 +5,19 @@ use Rattle.array.proofs.RunsFound.{order-done}
 use borrow.Author.Needs.{needs}
 use Rattle.array.proofs.runs.order_pass.Statement.{statement}
 use Rattle.array.proofs.runs.order_pass.Tie as tie
-use Rattle.array.proofs.runs.order_pass.Reads as reads
-use Rattle.array.proofs.runs.order_pass.Lts as lts
-use Rattle.array.proofs.places.restore_all.Reads as restore-all-reads
-use Rattle.array.proofs.runs.pass.Reads as pass-reads
 
--- src/runs.rt:143:9
 pass-requires : tie.Need-pass-requires
 pass-requires c κs = search needs
 
--- src/runs.rt:144:5
 restore-all-requires : tie.Need-restore-all-requires
 restore-all-requires c κs = filled-rows _ _ _ _ (c .before .before .before .before .before .before .before .before .before .before .before .pre .0) (c .before .before .before .before .before .pass .ensures .filled)
 
--- src/runs.rt:139:1
 same-length : tie.Need-same-length
 same-length c = search needs
 
--- src/runs.rt:139:1
 same-length-2 : tie.Need-same-length-2
 same-length-2 c = search needs
 
--- src/runs.rt:139:1
 returns : tie.Need-returns
 returns c = order-done _ _ _ _ _ _ _ _ _ (c .before .before .before .before .before .before .before .before .before .before .before .before .before .before .pre .0) (c .before .before .before .before .before .before .before .before .pass .ensures) (c .before .before .restore-all .ensures)
 

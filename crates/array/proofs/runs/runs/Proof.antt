@@ -10,83 +10,58 @@ use Rattle.answer.specs.Checks.{content-refused, content-accepted}
 use borrow.Author.Needs.{needs}
 use Rattle.array.proofs.runs.runs.Statement.{statement}
 use Rattle.array.proofs.runs.runs.Tie as tie
-use Rattle.array.proofs.runs.runs.Reads as reads
-use Rattle.array.proofs.runs.runs.Lts as lts
-use Rattle.answer.proofs.accepted.Reads as accepted-reads
-use Rattle.answer.proofs.limits.run_list_length.Reads as run-list-length-reads
-use Rattle.answer.proofs.limits.work_length.Reads as work-length-reads
-use Rattle.answer.proofs.refused.Reads as refused-reads
-use Rattle.array.proofs.runs.find.Reads as find-reads
 
--- src/runs.rt:169:9
 refused-requires : tie.Need-refused-requires
 refused-requires c κs = search needs
 
--- src/runs.rt:169:9
 returns : tie.Need-returns
 returns c = (simp (eq-eqb _ _ (c .before .if1 .taken)) (c .refused .ensures), (content-refused _ _ _ (c .refused .ensures) _ _, content-refused _ _ _ (c .refused .ensures) _ _))
 
--- src/runs.rt:172:9
 refused-requires-2 : tie.Need-refused-requires-2
 refused-requires-2 c κs = search needs
 
--- src/runs.rt:172:9
 returns-2 : tie.Need-returns-2
 returns-2 c = (simp (ne-eqb _ _ (c .before .before .if1 .left), lt-ltb _ _ (c .before .if2 .taken)) (c .refused2 .ensures), (content-refused _ _ _ (c .refused2 .ensures) _ _, content-refused _ _ _ (c .refused2 .ensures) _ _))
 
--- src/runs.rt:174:45
 cast-run-list-length : tie.Need-cast-run-list-length
 cast-run-list-length c = search needs
 
--- src/runs.rt:174:21
 run-list-length-requires : tie.Need-run-list-length-requires
 run-list-length-requires c κs = search needs
 
--- src/runs.rt:175:9
 refused-requires-3 : tie.Need-refused-requires-3
 refused-requires-3 c κs = search needs
 
--- src/runs.rt:175:9
 returns-3 : tie.Need-returns-3
 returns-3 c = let h : length (c .before .before .before .before .before .before .before .before .args .list .now) < 6 * length (c .before .before .before .before .before .before .before .before .args .text .now) = omega (arith, c .before .if3 .taken, c .before .before .run-list-length .ensures) in (simp (ne-eqb _ _ (c .before .before .before .before .if1 .left), le-ltb _ _ (c .before .before .before .if2 .left), lt-ltb _ _ h) (c .refused3 .ensures), (content-refused _ _ _ (c .refused3 .ensures) _ _, content-refused _ _ _ (c .refused3 .ensures) _ _))
 
--- src/runs.rt:177:41
 cast-work-length : tie.Need-cast-work-length
 cast-work-length c = search needs
 
--- src/runs.rt:177:21
 work-length-requires : tie.Need-work-length-requires
 work-length-requires c κs = search needs
 
--- src/runs.rt:178:9
 refused-requires-4 : tie.Need-refused-requires-4
 refused-requires-4 c κs = search needs
 
--- src/runs.rt:178:9
 returns-4 : tie.Need-returns-4
 returns-4 c = let g : 6 * length (c .before .before .before .before .before .before .before .before .before .before .args .text .now) ≤ length (c .before .before .before .before .before .before .before .before .before .before .args .list .now) = omega (arith, c .before .before .before .if3 .left, c .before .before .before .before .run-list-length .ensures) in let h : length (c .before .before .before .before .before .before .before .before .before .before .args .work .now) < 2 * length (c .before .before .before .before .before .before .before .before .before .before .args .text .now) = omega (arith, c .before .if4 .taken, c .before .before .work-length .ensures) in (simp (ne-eqb _ _ (c .before .before .before .before .before .before .if1 .left), le-ltb _ _ (c .before .before .before .before .before .if2 .left), le-ltb _ _ g, lt-ltb _ _ h) (c .refused4 .ensures), (content-refused _ _ _ (c .refused4 .ensures) _ _, content-refused _ _ _ (c .refused4 .ensures) _ _))
 
--- src/runs.rt:180:22
 find-requires : tie.Need-find-requires
 find-requires c κs = search needs
 
--- src/runs.rt:180:22
 cast-accepted : tie.Need-cast-accepted
 cast-accepted c = omega (arith, c .before .before .before .before .find .ensures .few, c .before .before .before .before .before .before .before .before .before .before .before .if2 .left)
 
--- src/runs.rt:180:5
 accepted-requires : tie.Need-accepted-requires
 accepted-requires c κs = search needs
 
--- src/runs.rt:162:1
 same-length : tie.Need-same-length
 same-length c = search needs
 
--- src/runs.rt:162:1
 same-length-2 : tie.Need-same-length-2
 same-length-2 c = search needs
 
--- src/runs.rt:162:1
 returns-5 : tie.Need-returns-5
 returns-5 c = let g : 6 * length (c .before .before .before .before .before .before .before .before .before .before .before .before .before .before .before .before .before .args .text .now) ≤ length (c .before .before .before .before .before .before .before .before .before .before .before .before .before .before .before .before .before .args .list .now) = omega (arith, c .before .before .before .before .before .before .before .before .before .before .if3 .left, c .before .before .before .before .before .before .before .before .before .before .before .run-list-length .ensures) in let h : 2 * length (c .before .before .before .before .before .before .before .before .before .before .before .before .before .before .before .before .before .args .text .now) ≤ length (c .before .before .before .before .before .before .before .before .before .before .before .before .before .before .before .before .before .args .work .now) = omega (arith, c .before .before .before .before .before .before .before .before .if4 .left, c .before .before .before .before .before .before .before .before .before .work-length .ensures) in let f = c .before .before .before .before .before .find .ensures in (simp (ne-eqb _ _ (c .before .before .before .before .before .before .before .before .before .before .before .before .before .if1 .left), le-ltb _ _ (c .before .before .before .before .before .before .before .before .before .before .before .before .if2 .left), le-ltb _ _ g, le-ltb _ _ h) (c .accepted .ensures ∙ ap acceptedWith (f .counted)), (content-accepted _ _ (c .accepted .ensures) _ _ _ (f .entries), content-accepted _ _ (c .accepted .ensures) _ _ _ (f .arrays)))
 

@@ -5,8 +5,6 @@ use native.Mathlib.Omega.{arith}
 use Rattle.array.proofs.RunLaws.{LeftSoFar, left-start, left-more, left-stop, left-end}
 use Rattle.array.proofs.runs.start_of.Statement.{statement}
 use Rattle.array.proofs.runs.start_of.Tie as tie
-use Rattle.array.proofs.runs.start_of.Reads as reads
-use Rattle.array.proofs.runs.start_of.Lts as lts
 
 abbrev Inv-loop : tie.InvT-loop
 Inv-loop text i p s₀ s = LeftSoFar text i p s
@@ -14,47 +12,36 @@ Inv-loop text i p s₀ s = LeftSoFar text i p s
 abbrev μ-loop : tie.MeasureT-loop
 μ-loop text i p s₀ s = s
 
--- src/runs.rt:42:5
 loop-holds : tie.Need-loop-holds Inv-loop μ-loop
 loop-holds c = left-start _ _ _
 
--- src/runs.rt:43:17
 sub-if1 : tie.Need-sub-if1 Inv-loop μ-loop
 sub-if1 c = search needs
 
--- src/runs.rt:43:12
 shared-slice-read-if1 : tie.Need-shared-slice-read-if1 Inv-loop μ-loop
 shared-slice-read-if1 c = search needs
 
--- src/runs.rt:43:32
 sub-if1-2 : tie.Need-sub-if1-2 Inv-loop μ-loop
 sub-if1-2 c = search needs
 
--- src/runs.rt:43:32
 add-if1 : tie.Need-add-if1 Inv-loop μ-loop
 add-if1 c = search needs
 
--- src/runs.rt:43:27
 shared-slice-read-if1-2 : tie.Need-shared-slice-read-if1-2 Inv-loop μ-loop
 shared-slice-read-if1-2 c = search needs
 
--- src/runs.rt:44:13
 returns : tie.Need-returns Inv-loop μ-loop
 returns c = left-stop _ _ _ _ (c .before .before .before .before .loop .inv) (c .if1 .taken)
 
--- src/runs.rt:46:9
 sub-s : tie.Need-sub-s Inv-loop μ-loop
 sub-s c = search needs
 
--- src/runs.rt:42:5
 loop-less : tie.Need-loop-less Inv-loop μ-loop
 loop-less c = search needs
 
--- src/runs.rt:42:5
 loop-again : tie.Need-loop-again Inv-loop μ-loop
 loop-again c = left-more _ _ _ _ (c .before .before .before .before .loop .inv) (c .before .before .before .loop-test .taken) (c .if1 .left)
 
--- src/runs.rt:37:1
 returns-2 : tie.Need-returns-2 Inv-loop μ-loop
 returns-2 c = left-end _ _ _ _ (c .before .loop .inv) (c .loop-test .left)
 

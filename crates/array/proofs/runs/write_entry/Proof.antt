@@ -5,70 +5,52 @@ use lib.ListN.{length-set}
 use borrow.Author.Needs.{needs}
 use Rattle.array.proofs.runs.write_entry.Statement.{statement}
 use Rattle.array.proofs.runs.write_entry.Tie as tie
-use Rattle.array.proofs.runs.write_entry.Reads as reads
-use Rattle.array.proofs.runs.write_entry.Lts as lts
 
--- src/runs.rt:56:23
 cast-list : tie.Need-cast-list
 cast-list c = search needs
 
--- src/runs.rt:56:10
 mul-list : tie.Need-mul-list
 mul-list c = search needs
 
--- src/runs.rt:56:5
 mul-list-2 : tie.Need-mul-list-2
 mul-list-2 c = search needs
 
--- src/runs.rt:56:5
 slice-write-list : tie.Need-slice-write-list
 slice-write-list c = search needs
 
--- src/runs.rt:57:27
 cast-list-2 : tie.Need-cast-list-2
 cast-list-2 c = search needs
 
--- src/runs.rt:57:10
 mul-list-3 : tie.Need-mul-list-3
 mul-list-3 c = search needs
 
--- src/runs.rt:57:10
 add-list : tie.Need-add-list
 add-list c = search needs
 
--- src/runs.rt:57:5
 mul-list-4 : tie.Need-mul-list-4
 mul-list-4 c = search needs
 
--- src/runs.rt:57:5
 slice-write-list-2 : tie.Need-slice-write-list-2
 slice-write-list-2 c = simp length-set (omega arith)
 
--- src/runs.rt:58:27
 cast-list-3 : tie.Need-cast-list-3
 cast-list-3 c = search needs
 
--- src/runs.rt:58:10
 mul-list-5 : tie.Need-mul-list-5
 mul-list-5 c = search needs
 
--- src/runs.rt:58:10
 add-list-2 : tie.Need-add-list-2
 add-list-2 c = search needs
 
--- src/runs.rt:58:5
 mul-list-6 : tie.Need-mul-list-6
 mul-list-6 c = search needs
 
--- src/runs.rt:58:5
 slice-write-list-3 : tie.Need-slice-write-list-3
 slice-write-list-3 c = simp length-set (omega arith)
 
--- src/runs.rt:52:1
 same-length : tie.Need-same-length
 same-length c = search needs
 
--- src/runs.rt:52:1
 returns : tie.Need-returns
 returns c = search needs
 
