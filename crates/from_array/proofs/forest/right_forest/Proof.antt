@@ -199,9 +199,9 @@ returns-6 c =
       is ∙ sym (checked e ∙ yes .answered),
       (
         content-accepted _ _ is (forestFirst (a s)) (first s) _
-          (holds-written (firstFor (a s)) (first s) (length (a s)) (forest .write-first .last .1 .0) (wrote-first forest) (e .before .if3 .left)),
+            (holds-written (firstFor (a s)) (first s) (length (a s)) (forest .write-first .last .1 .0) (wrote-first forest) (e .before .if3 .left)),
         content-accepted _ _ is (forestPast (a s)) (past s) _
-          (holds-written (pastFor (a s)) (past s) (length (a s)) (wrote .write-past .last .1 .1 .0) (wrote .write-past .ensures) (e .if4 .left)),
+            (holds-written (pastFor (a s)) (past s) (length (a s)) (wrote .write-past .last .1 .1 .0) (wrote .write-past .ensures) (e .if4 .left)),
       ),
     )
 
