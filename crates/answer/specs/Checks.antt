@@ -48,10 +48,15 @@ contentIn (Refused reason position) l before = before
 abbrev pub contentAfter : Answer → List ℕ → List ℕ → List ℕ
 contentAfter a l before = contentIn (a .outcome) l before
 
+-- An outcome that refuses leaves a buffer as it was.
+pub content-told : (o : Outcome) (reason : Reason) (position : ℕ) → o ≡ Refused reason position → (l before : List ℕ) →
+    before ≡ contentIn o l before
+content-told o reason position e l before = sym (ap (λ (q : Outcome). contentIn q l before) e)
+
 -- A refused call leaves a buffer as it was.
 pub content-refused : (a : Answer) (reason : Reason) (position : ℕ) → a ≡ refusedFor reason position → (l before : List ℕ) →
     before ≡ contentAfter a l before
-content-refused a reason position e l before = sym (ap (λ (b : Answer). contentAfter b l before) e)
+content-refused a reason position e l before = content-told (a .outcome) reason position (ap (λ (b : Answer). b .outcome) e) l before
 
 -- An accepted call leaves what it has written.
 pub content-accepted : (a : Answer) (count : ℕ) → a ≡ acceptedWith count → (l before after : List ℕ) → after ≡ written l before →

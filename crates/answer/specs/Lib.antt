@@ -3,3 +3,4 @@ pub mod Answers
 pub mod Limits
 pub mod Faults
 pub mod Checks
+pub mod CheckLaws

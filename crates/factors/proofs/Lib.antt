@@ -1,6 +1,5 @@
 pub mod Scanning
 pub mod Listing
-pub mod Checked
 pub mod Tabling
 pub mod Written
 pub mod Linking

@@ -1,4 +1,4 @@
--- What an answer leaves in a buffer, and what an accepted array is.
+-- What an accepted array is.
 -- Assumes nothing.
 use mathlib.Core.Path.{_≡_, refl, sym, ap, subst, _∙_}
 use mathlib.Core.List.{List}
@@ -8,24 +8,10 @@ use lib.ListN.{length}
 use Rattle.words.specs.ValidArray.{Valid}
 use Rattle.words.specs.Compute.ValidArray.{Verdict, fits, fault, HasVerdict, checkArray, checkArray-holds}
 use Rattle.answer.specs.declared.Answer.{Answer}
-use Rattle.answer.specs.declared.Outcome.{Outcome}
 use Rattle.answer.specs.declared.Outcome.the-variants.{Accepted, Refused}
 use Rattle.answer.specs.declared.Reason.{Reason}
-use Rattle.answer.specs.Answers.{acceptedWith, refusedFor}
-use Rattle.answer.specs.Checks.{written, contentIn, contentAfter}
+use Rattle.answer.specs.Answers.{acceptedWith}
 use Rattle.from_array.specs.Answers.{verdictAnswer, arrayChecked}
-
--- A buffer after a refusal, and after an acceptance.
-pub content-refused : {r : Answer} {reason : Reason} {position : ℕ} (l before : List ℕ) → r ≡ refusedFor reason position
-    → before ≡ contentAfter r l before
-content-refused l before e = sym (ap (λ (q : Answer). contentAfter q l before) e)
-
-pub content-told : {o : Outcome} {reason : Reason} {position : ℕ} (l before : List ℕ) → o ≡ Refused reason position
-    → before ≡ contentIn o l before
-content-told l before e = sym (ap (λ (q : Outcome). contentIn q l before) e)
-
-pub content-accepted : {r : Answer} {count : ℕ} (l before : List ℕ) → r ≡ acceptedWith count → written l before ≡ contentAfter r l before
-content-accepted l before e = sym (ap (λ (q : Answer). contentAfter q l before) e)
 
 -- An accepted array is valid, and the count is its length.
 pub record Accepting (a : List ℕ) (count : ℕ) : Type 0 where

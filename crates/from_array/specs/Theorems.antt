@@ -22,8 +22,8 @@ use Rattle.answer.specs.declared.Answer.{Answer}
 use Rattle.answer.specs.Answers.{acceptedWith, number}
 use Rattle.answer.specs.Limits.{maxLength}
 use Rattle.answer.specs.Checks.{outputChecked, contentAfter}
+use Rattle.answer.specs.CheckLaws.{length-passes, output-passes}
 use Rattle.from_array.specs.Answers.{verdictAnswer, arrayChecked, reconstructAnswer, rightForestAnswer}
-use Rattle.from_array.specs.CheckLaws.{length-passes, output-passes}
 
 -- An array of 1 to 1,048,576 entries.
 pub record Sized (a : List ℕ) : Type 0 where

@@ -11,6 +11,7 @@ use lib.Seq.{take-at, take-all}
 use Rattle.words.specs.Equality.{decided-number-equality}
 use Rattle.words.specs.Runs.{Entry, numbers}
 use Rattle.words.specs.Compute.Runs.{runsOf}
+use Rattle.words.specs.Laws.Runs.{numbers-length}
 use Rattle.answer.specs.declared.Reason.{Reason}
 use Rattle.answer.specs.declared.Reason.the-variants.{FileTooLong}
 use Rattle.answer.specs.declared.Outcome.{Outcome}
@@ -21,11 +22,6 @@ use Rattle.answer.specs.Limits.{maxLetters, maxInput}
 use Rattle.fasta.specs.Reader.{readerAnswer}
 use Rattle.listing.specs.Bed.{entriesOf}
 use Rattle.listing.specs.Listing.{refusalLine, recordListing, HoldsRuns, listingFor, listingOf}
-
--- A run list has three numbers for each run.
-pub numbers-length : (rs : List Entry) → length (numbers rs) ≡ 3 * length rs
-numbers-length [] = refl
-numbers-length (r ∷ rs) = omega (arith, numbers-length rs)
 
 -- The runs are read back from their numbers.
 entries-numbers : (rs : List Entry) (rest : List ℕ) → entriesOf (length rs) (numbers rs ++ rest) ≡ rs

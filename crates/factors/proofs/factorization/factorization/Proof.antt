@@ -1,10 +1,11 @@
 -- `factors::factorization::factorization` meets its contract: each return is a row of the table of checks.
 -- Assumes nothing.
-use mathlib.Core.Path.{ap, _∙_}
+use mathlib.Core.Path.{sym, ap, _∙_}
 use native.Mathlib.Omega.{arith}
 use borrow.Author.Needs.{needs}
 use Rattle.answer.specs.Answers.{acceptedWith}
-use Rattle.factors.proofs.Checked.{empty-refused, long-refused, length-passed, short-refused, output-passed, refused-keeps, accepted-writes}
+use Rattle.answer.specs.Checks.{content-refused, content-accepted}
+use Rattle.answer.specs.CheckLaws.{length-empty, length-over, length-passes, output-short, output-passes}
 use Rattle.factors.proofs.factorization.factorization.Statement.{statement}
 use Rattle.factors.proofs.factorization.factorization.Tie as tie
 
@@ -13,8 +14,8 @@ refused-requires c κs = search needs
 
 returns : tie.Need-returns
 returns c = (
-  c .refused .ensures ∙ empty-refused _ _ (c .before .if1 .taken),
-  refused-keeps _ _ _ _ _ (c .refused .ensures),
+  c .refused .ensures ∙ sym (length-empty _ _ (c .before .if1 .taken)),
+  content-refused _ _ _ (c .refused .ensures) _ _,
 )
 
 max-length-requires : tie.Need-max-length-requires
@@ -25,8 +26,8 @@ refused-requires-2 c κs = search needs
 
 returns-2 : tie.Need-returns-2
 returns-2 c = (
-  c .refused2 .ensures ∙ long-refused _ _ (c .before .before .before .if1 .left) (omega (arith, c .before .before .max-length .ensures)),
-  refused-keeps _ _ _ _ _ (c .refused2 .ensures),
+  c .refused2 .ensures ∙ sym (length-over _ _ (c .before .before .before .if1 .left) (omega (arith, c .before .before .max-length .ensures))),
+  content-refused _ _ _ (c .refused2 .ensures) _ _,
 )
 
 refused-requires-3 : tie.Need-refused-requires-3
@@ -35,9 +36,9 @@ refused-requires-3 c κs = search needs
 returns-3 : tie.Need-returns-3
 returns-3 c =
     let checked = c .before .before .before in (
-      c .refused3 .ensures ∙ short-refused _ _ _ (c .before .if3 .taken) ∙
-          length-passed _ _ (checked .before .if1 .left) (omega (arith, checked .max-length .ensures)),
-      refused-keeps _ _ _ _ _ (c .refused3 .ensures),
+      c .refused3 .ensures ∙ sym (output-short _ _ _ (c .before .if3 .taken)) ∙
+          sym (length-passes _ _ (checked .before .if1 .left) (omega (arith, checked .max-length .ensures))),
+      content-refused _ _ _ (c .refused3 .ensures) _ _,
     )
 
 list-factors-requires : tie.Need-list-factors-requires
@@ -53,9 +54,9 @@ returns-4 : tie.Need-returns-4
 returns-4 c =
     let listed = c .before .before .before in
     let checked = listed .before .before .before .before in (
-      c .accepted .ensures ∙ ap acceptedWith (listed .list-factors .ensures .counted) ∙ output-passed _ _ _ (listed .before .before .if3 .left) ∙
-          length-passed _ _ (checked .before .if1 .left) (omega (arith, checked .max-length .ensures)),
-      accepted-writes _ _ _ _ _ (c .accepted .ensures) (listed .list-factors .ensures .content),
+      c .accepted .ensures ∙ ap acceptedWith (listed .list-factors .ensures .counted) ∙ sym (output-passes _ _ _ (listed .before .before .if3 .left)) ∙
+          sym (length-passes _ _ (checked .before .if1 .left) (omega (arith, checked .max-length .ensures))),
+      content-accepted _ _ (c .accepted .ensures) _ _ _ (listed .list-factors .ensures .content),
     )
 
 pub factorization-spec : {M : Type 1} → statement M

@@ -1,9 +1,10 @@
 -- `factors::left_forest::left_forest` meets its contract: each return is a row of the table of checks.
 -- Assumes nothing.
-use mathlib.Core.Path.{_∙_}
+use mathlib.Core.Path.{sym, _∙_}
 use native.Mathlib.Omega.{arith}
-use Rattle.factors.proofs.Checked.{empty-refused, long-refused, length-passed, short-refused, output-passed, refused-keeps, accepted-writes}
 use borrow.Author.Needs.{needs}
+use Rattle.answer.specs.Checks.{content-refused, content-accepted}
+use Rattle.answer.specs.CheckLaws.{length-empty, length-over, length-passes, output-short, output-passes}
 use Rattle.factors.proofs.left_forest.left_forest.Statement.{statement}
 use Rattle.factors.proofs.left_forest.left_forest.Tie as tie
 
@@ -12,8 +13,8 @@ refused-requires c κs = search needs
 
 returns : tie.Need-returns
 returns c = (
-  c .refused .ensures ∙ empty-refused _ _ (c .before .if1 .taken),
-  (refused-keeps _ _ _ _ _ (c .refused .ensures), refused-keeps _ _ _ _ _ (c .refused .ensures)),
+  c .refused .ensures ∙ sym (length-empty _ _ (c .before .if1 .taken)),
+  (content-refused _ _ _ (c .refused .ensures) _ _, content-refused _ _ _ (c .refused .ensures) _ _),
 )
 
 max-length-requires : tie.Need-max-length-requires
@@ -24,8 +25,8 @@ refused-requires-2 c κs = search needs
 
 returns-2 : tie.Need-returns-2
 returns-2 c = (
-  c .refused2 .ensures ∙ long-refused _ _ (c .before .before .before .if1 .left) (omega (arith, c .before .before .max-length .ensures)),
-  (refused-keeps _ _ _ _ _ (c .refused2 .ensures), refused-keeps _ _ _ _ _ (c .refused2 .ensures)),
+  c .refused2 .ensures ∙ sym (length-over _ _ (c .before .before .before .if1 .left) (omega (arith, c .before .before .max-length .ensures))),
+  (content-refused _ _ _ (c .refused2 .ensures) _ _, content-refused _ _ _ (c .refused2 .ensures) _ _),
 )
 
 refused-requires-3 : tie.Need-refused-requires-3
@@ -34,9 +35,9 @@ refused-requires-3 c κs = search needs
 returns-3 : tie.Need-returns-3
 returns-3 c =
     let checked = c .before .before .before in (
-      c .refused3 .ensures ∙ short-refused _ _ _ (c .before .if3 .taken) ∙
-          length-passed _ _ (checked .before .if1 .left) (omega (arith, checked .max-length .ensures)),
-      (refused-keeps _ _ _ _ _ (c .refused3 .ensures), refused-keeps _ _ _ _ _ (c .refused3 .ensures)),
+      c .refused3 .ensures ∙ sym (output-short _ _ _ (c .before .if3 .taken)) ∙
+          sym (length-passes _ _ (checked .before .if1 .left) (omega (arith, checked .max-length .ensures))),
+      (content-refused _ _ _ (c .refused3 .ensures) _ _, content-refused _ _ _ (c .refused3 .ensures) _ _),
     )
 
 refused-requires-4 : tie.Need-refused-requires-4
@@ -45,9 +46,9 @@ refused-requires-4 c κs = search needs
 returns-4 : tie.Need-returns-4
 returns-4 c =
     let checked = c .before .before .before .before in (
-      c .refused4 .ensures ∙ short-refused _ _ _ (c .before .if4 .taken) ∙ output-passed _ _ _ (c .before .before .if3 .left) ∙
-          length-passed _ _ (checked .before .if1 .left) (omega (arith, checked .max-length .ensures)),
-      (refused-keeps _ _ _ _ _ (c .refused4 .ensures), refused-keeps _ _ _ _ _ (c .refused4 .ensures)),
+      c .refused4 .ensures ∙ sym (output-short _ _ _ (c .before .if4 .taken)) ∙ sym (output-passes _ _ _ (c .before .before .if3 .left)) ∙
+          sym (length-passes _ _ (checked .before .if1 .left) (omega (arith, checked .max-length .ensures))),
+      (content-refused _ _ _ (c .refused4 .ensures) _ _, content-refused _ _ _ (c .refused4 .ensures) _ _),
     )
 
 grow-requires : tie.Need-grow-requires
@@ -70,11 +71,11 @@ returns-5 c =
     let grown = c .before .before .before .before .before in
     let roomy = grown .before .before .before in
     let checked = roomy .before .before .before in (
-      c .accepted .ensures ∙ output-passed _ _ _ (roomy .if4 .left) ∙ output-passed _ _ _ (roomy .before .if3 .left) ∙
-          length-passed _ _ (checked .before .if1 .left) (omega (arith, checked .max-length .ensures)),
+      c .accepted .ensures ∙ sym (output-passes _ _ _ (roomy .if4 .left)) ∙ sym (output-passes _ _ _ (roomy .before .if3 .left)) ∙
+          sym (length-passes _ _ (checked .before .if1 .left) (omega (arith, checked .max-length .ensures))),
       (
-        accepted-writes _ _ _ _ _ (c .accepted .ensures) (grown .grow .ensures .in-first),
-        accepted-writes _ _ _ _ _ (c .accepted .ensures) (grown .grow .ensures .in-past),
+        content-accepted _ _ (c .accepted .ensures) _ _ _ (grown .grow .ensures .in-first),
+        content-accepted _ _ (c .accepted .ensures) _ _ _ (grown .grow .ensures .in-past),
       ),
     )
 

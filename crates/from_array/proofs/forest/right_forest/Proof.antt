@@ -10,11 +10,11 @@ use Rattle.words.specs.ArrayForest.{firstFor, pastFor, forestFirst, forestPast}
 use Rattle.answer.specs.declared.Answer.{Answer}
 use Rattle.answer.specs.Answers.{acceptedWith}
 use Rattle.answer.specs.Limits.{maxLength}
-use Rattle.answer.specs.Checks.{outputChecked}
+use Rattle.answer.specs.Checks.{outputChecked, content-refused, content-told, content-accepted}
+use Rattle.answer.specs.CheckLaws.{length-empty, length-over, length-passes, output-short, output-passes}
 use Rattle.from_array.specs.Answers.{arrayChecked, rightForestAnswer}
 use Rattle.from_array.specs.Written.{Holds}
-use Rattle.from_array.specs.CheckLaws.{length-empty, length-over, length-passes, output-short, output-passes}
-use Rattle.from_array.proofs.Calls.{content-refused, content-told, content-accepted, Accepting, accepting}
+use Rattle.from_array.proofs.Calls.{Accepting, accepting}
 use Rattle.from_array.proofs.Writing.{holds-written}
 use Rattle.from_array.proofs.forest.right_forest.Statement.{statement}
 use Rattle.from_array.proofs.forest.right_forest.Tie as tie
@@ -93,8 +93,8 @@ returns c =
     let s = c .before .before .before .before .before in (
       c .refused .ensures ∙ sym (length-empty (length (a s)) (after-length s) (c .before .if1 .taken)),
       (
-        content-refused (forestFirst (a s)) (first s) (c .refused .ensures),
-        content-refused (forestPast (a s)) (past s) (c .refused .ensures),
+        content-refused _ _ _ (c .refused .ensures) (forestFirst (a s)) (first s),
+        content-refused _ _ _ (c .refused .ensures) (forestPast (a s)) (past s),
       ),
     )
 
@@ -112,8 +112,8 @@ returns-2 c =
           (length-over (length (a s)) (after-length s) (c .before .before .before .if1 .left)
           (omega (arith, c .before .if2 .taken, c .before .before .max-length .ensures))),
       (
-        content-refused (forestFirst (a s)) (first s) (c .refused2 .ensures),
-        content-refused (forestPast (a s)) (past s) (c .refused2 .ensures),
+        content-refused _ _ _ (c .refused2 .ensures) (forestFirst (a s)) (first s),
+        content-refused _ _ _ (c .refused2 .ensures) (forestPast (a s)) (past s),
       ),
     )
 
@@ -126,8 +126,8 @@ returns-3 c =
     let s = start₂ e in (
       c .refused3 .ensures ∙ sym (length-checked e ∙ output-short (length (a s)) (after-first s) (length (first s)) (c .before .if3 .taken)),
       (
-        content-refused (forestFirst (a s)) (first s) (c .refused3 .ensures),
-        content-refused (forestPast (a s)) (past s) (c .refused3 .ensures),
+        content-refused _ _ _ (c .refused3 .ensures) (forestFirst (a s)) (first s),
+        content-refused _ _ _ (c .refused3 .ensures) (forestPast (a s)) (past s),
       ),
     )
 
@@ -140,8 +140,8 @@ returns-4 c =
     let s = start₃ e in (
       c .refused4 .ensures ∙ sym (first-checked e ∙ output-short (length (a s)) (arrayChecked (a s)) (length (past s)) (c .before .if4 .taken)),
       (
-        content-refused (forestFirst (a s)) (first s) (c .refused4 .ensures),
-        content-refused (forestPast (a s)) (past s) (c .refused4 .ensures),
+        content-refused _ _ _ (c .refused4 .ensures) (forestFirst (a s)) (first s),
+        content-refused _ _ _ (c .refused4 .ensures) (forestPast (a s)) (past s),
       ),
     )
 
@@ -160,8 +160,8 @@ returns-5 c =
     let s = start₄ (k .before) in (
       k .check .ensures ∙ sym (checked (k .before)),
       (
-        content-told (forestFirst (a s)) (first s) (c .enum-told .given .1),
-        content-told (forestPast (a s)) (past s) (c .enum-told .given .1),
+        content-told _ _ _ (c .enum-told .given .1) (forestFirst (a s)) (first s),
+        content-told _ _ _ (c .enum-told .given .1) (forestPast (a s)) (past s),
       ),
     )
 
@@ -198,10 +198,10 @@ returns-6 c =
     let is : c .accepted .result ≡ acceptedWith (length (a s)) = c .accepted .ensures ∙ ap acceptedWith (yes .counted) in (
       is ∙ sym (checked e ∙ yes .answered),
       (
-        holds-written (firstFor (a s)) (first s) (length (a s)) (forest .write-first .last .1 .0) (wrote-first forest) (e .before .if3 .left) ∙
-            content-accepted (forestFirst (a s)) (first s) is,
-        holds-written (pastFor (a s)) (past s) (length (a s)) (wrote .write-past .last .1 .1 .0) (wrote .write-past .ensures) (e .if4 .left) ∙
-            content-accepted (forestPast (a s)) (past s) is,
+        content-accepted _ _ is (forestFirst (a s)) (first s) _
+            (holds-written (firstFor (a s)) (first s) (length (a s)) (forest .write-first .last .1 .0) (wrote-first forest) (e .before .if3 .left)),
+        content-accepted _ _ is (forestPast (a s)) (past s) _
+            (holds-written (pastFor (a s)) (past s) (length (a s)) (wrote .write-past .last .1 .1 .0) (wrote .write-past .ensures) (e .if4 .left)),
       ),
     )
 

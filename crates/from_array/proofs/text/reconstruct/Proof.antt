@@ -9,10 +9,10 @@ use borrow.Author.Needs.{needs}
 use Rattle.words.specs.ValidArray.{letterFor, textFor}
 use Rattle.answer.specs.Answers.{acceptedWith}
 use Rattle.answer.specs.Limits.{maxLength}
-use Rattle.answer.specs.Checks.{outputChecked}
+use Rattle.answer.specs.Checks.{outputChecked, content-refused, content-told, content-accepted}
+use Rattle.answer.specs.CheckLaws.{length-empty, length-over, length-passes, output-short, output-passes}
 use Rattle.from_array.specs.Answers.{arrayChecked, reconstructAnswer}
-use Rattle.from_array.specs.CheckLaws.{length-empty, length-over, length-passes, output-short, output-passes}
-use Rattle.from_array.proofs.Calls.{content-refused, content-told, content-accepted, Accepting, accepting}
+use Rattle.from_array.proofs.Calls.{Accepting, accepting}
 use Rattle.from_array.proofs.Writing.{holds-written}
 use Rattle.from_array.proofs.text.reconstruct.Statement.{statement}
 use Rattle.from_array.proofs.text.reconstruct.Tie as tie
@@ -67,7 +67,7 @@ returns c =
       c .refused .ensures ∙
           sym
           (length-empty (length (a s)) (outputChecked (length (a s)) (length (text s)) (arrayChecked (a s))) (c .before .if1 .taken)),
-      content-refused (textFor (a s)) (text s) (c .refused .ensures),
+      content-refused _ _ _ (c .refused .ensures) (textFor (a s)) (text s),
     )
 
 max-length-requires : tie.Need-max-length-requires
@@ -83,7 +83,7 @@ returns-2 c =
           sym
           (length-over (length (a s)) (outputChecked (length (a s)) (length (text s)) (arrayChecked (a s))) (c .before .before .before .if1 .left)
           (omega (arith, c .before .if2 .taken, c .before .before .max-length .ensures))),
-      content-refused (textFor (a s)) (text s) (c .refused2 .ensures),
+      content-refused _ _ _ (c .refused2 .ensures) (textFor (a s)) (text s),
     )
 
 refused-requires-3 : tie.Need-refused-requires-3
@@ -95,7 +95,7 @@ returns-3 c =
     let s = start₂ e in (
       c .refused3 .ensures ∙
           sym (length-checked e ∙ output-short (length (a s)) (arrayChecked (a s)) (length (text s)) (c .before .if3 .taken)),
-      content-refused (textFor (a s)) (text s) (c .refused3 .ensures),
+      content-refused _ _ _ (c .refused3 .ensures) (textFor (a s)) (text s),
     )
 
 check-requires : tie.Need-check-requires
@@ -111,7 +111,7 @@ returns-4 : tie.Need-returns-4
 returns-4 c =
     let k = c .before .before in
     let s = start₃ (k .before) in
-    (k .check .ensures ∙ sym (checked (k .before)), content-told (textFor (a s)) (text s) (c .enum-told .given .1))
+    (k .check .ensures ∙ sym (checked (k .before)), content-told _ _ _ (c .enum-told .given .1) (textFor (a s)) (text s))
 
 write-letters-requires : tie.Need-write-letters-requires
 write-letters-requires c κs =
@@ -136,8 +136,8 @@ returns-5 c =
     let yes = accepted-here k in
     let is : c .accepted .result ≡ acceptedWith (length (a s)) = c .accepted .ensures ∙ ap acceptedWith (yes .counted) in (
       is ∙ sym (checked e ∙ yes .answered),
-      holds-written (letterFor (a s)) (text s) (length (a s)) (wrote .write-letters .last .1 .0) (wrote .write-letters .ensures) (e .if3 .left) ∙
-          content-accepted (textFor (a s)) (text s) is,
+      content-accepted _ _ is (textFor (a s)) (text s) _
+          (holds-written (letterFor (a s)) (text s) (length (a s)) (wrote .write-letters .last .1 .0) (wrote .write-letters .ensures) (e .if3 .left)),
     )
 
 pub reconstruct-spec : {M : Type 1} → statement M
