@@ -1,4 +1,4 @@
-// The limits of document 01, each named once, here and in `specs/Limits.antt`. Nothing is assumed.
+// The limits of document 01 that the calls share, named here and in `specs/Limits.antt`. Nothing is assumed.
 ghost use mathlib.Core.Path.{_≡_};
 ghost use Rattle.answer.specs.Limits.{maxLength, maxLetters, maxInput, runListLength, workLength};
 

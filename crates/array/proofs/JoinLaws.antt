@@ -15,6 +15,7 @@ use Rattle.words.specs.Letters.{Letters, Smaller, orderOf}
 use Rattle.words.specs.Laws.SpanLyndon.{letters}
 use Rattle.words.specs.Laws.Position.{Agree, SpanLyndon, SpanLess, differs, shorter}
 use Rattle.words.specs.Laws.SuffixOrder.{NextSmaller, agree-less}
+use Rattle.answer.specs.Limits.{maxLength}
 use Rattle.array.specs.declared.joined.Joined.{Joined}
 use Rattle.array.specs.declared.joined.Comparison.{Comparison}
 use Rattle.array.specs.declared.joined.Comparison.the-variants.{Below, Same, Above}
@@ -58,7 +59,7 @@ pub record Comparing (order : ℕ) (x before buf : List ℕ) (i j k₀ g₀ l s 
   pub loop : JoinLoop order x before buf i j k₀ g₀
   pub inside : j < length x
   pub fits : length x ≤ length buf
-  pub small : length x ≤ 1048576
+  pub small : length x ≤ maxLength
   pub after : i < j
   pub is-length : l ≡ entryOf order x j
   pub positive : 0 < l
@@ -67,7 +68,7 @@ pub record Comparing (order : ℕ) (x before buf : List ℕ) (i j k₀ g₀ l s 
   pub short : s < l
 
 pub comparing : (order : ℕ) (x before buf : List ℕ) (i j k₀ g₀ l s : ℕ) → JoinLoop order x before buf i j k₀ g₀ → j < length x →
-    length x ≤ length before → length x ≤ 1048576 → l ≡ getD buf j 0 → s ≡ rememberedAt buf j l → Comparing order x before buf i j k₀ g₀ l s
+    length x ≤ length before → length x ≤ maxLength → l ≡ getD buf j 0 → s ≡ rememberedAt buf j l → Comparing order x before buf i j k₀ g₀ l s
 comparing order x before buf i j k₀ g₀ l s w inside fits small el es =
     let e : l ≡ entryOf order x j = el ∙ entry-own order x buf j inside (w .joining .rows) in
     let nj = entry-next order x j inside in

@@ -8,6 +8,7 @@ use answer::limits;
 ghost use mathlib.Core.Path.{_≡_};
 ghost use Prim.Native.Nat.{_+_, _-_, _≤_, _<_};
 ghost use lib.ListN.{length};
+ghost use Rattle.answer.specs.Limits.{maxLength};
 ghost use Rattle.array.specs.Core.State.{RowsOf};
 ghost use Rattle.array.specs.Core.Order.{smallerIn};
 ghost use Rattle.array.specs.Core.Join.{JoinedTo};
@@ -29,7 +30,7 @@ fn smaller(a: u32, b: u32, order: u32) -> bool
 
 // Joins to the letter at i the factors after it, as long as the word so far is smaller than the next factor.
 pub(crate) fn join(text: &[u32], order: u32, buf: &mut [u32], i: usize) -> Joined
-    requires { ⌜ (i < length (now text)) × (length (now text) ≤ length (now buf)) × (length (now text) ≤ 1048576) × RowsOf order (now text) (now buf) (i + 1) ⌝ }
+    requires { ⌜ (i < length (now text)) × (length (now text) ≤ length (now buf)) × (length (now text) ≤ maxLength) × RowsOf order (now text) (now buf) (i + 1) ⌝ }
     ensures { λ r. ⌜ JoinedTo order (now (text .entry)) (now (buf .entry)) (now (buf .exit)) i r ⌝ }
 {
     let n = text.len();
@@ -40,7 +41,8 @@ pub(crate) fn join(text: &[u32], order: u32, buf: &mut [u32], i: usize) -> Joine
         let l = places::wide(buf[j]);
         let d = j - i;
         let s = places::remembered(buf, j, l);
-        // The comparison of the word so far with the next factor, from the letters that are known to agree on.
+        // Compares the word so far with the next factor, from the letters that are known to agree. Where the word ends first, below is
+        // settled, and the loop goes on only to measure how far they agree.
         let c = loop {
             if l <= k {
                 if d == l {
@@ -111,7 +113,7 @@ pub(crate) fn join(text: &[u32], order: u32, buf: &mut [u32], i: usize) -> Joine
 
 // Joins at every position from the last to the first.
 fn fill(text: &[u32], order: u32, buf: &mut [u32])
-    requires { ⌜ (length (now text) ≤ length (now buf)) × (length (now text) ≤ 1048576) ⌝ }
+    requires { ⌜ (length (now text) ≤ length (now buf)) × (length (now text) ≤ maxLength) ⌝ }
     ensures { λ r. ⌜ Filled order (now (text .entry)) (now (buf .entry)) (now (buf .exit)) 0 ⌝ }
 {
     let mut i = text.len();
@@ -127,7 +129,7 @@ fn fill(text: &[u32], order: u32, buf: &mut [u32])
 
 // Writes the Lyndon array of the text.
 fn compute(text: &[u32], order: u32, buf: &mut [u32])
-    requires { ⌜ (length (now text) ≤ length (now buf)) × (length (now text) ≤ 1048576) ⌝ }
+    requires { ⌜ (length (now text) ≤ length (now buf)) × (length (now text) ≤ maxLength) ⌝ }
     ensures { λ r. ⌜ now (buf .exit) ≡ written (arrayOf (decided-order order) (now (text .entry))) (now (buf .entry)) ⌝ }
 {
     fill(text, order, buf);

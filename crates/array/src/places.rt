@@ -2,6 +2,7 @@
 ghost use mathlib.Core.Path.{_≡_};
 ghost use Prim.Native.Nat.{_+_, _-_, _≤_, _<_, min};
 ghost use lib.ListN.{length};
+ghost use Rattle.answer.specs.Limits.{maxLength};
 ghost use Rattle.array.specs.Core.State.{rememberedAt, restoredAt, storedAt};
 ghost use Rattle.array.specs.Core.Fill.{HasRows, AllRestored};
 
@@ -45,7 +46,7 @@ pub(crate) fn restore(buf: &mut [u32], j: usize, l: usize)
 
 // Stores the length of the word from i to e, and s at its last place if it has two letters or more.
 pub(crate) fn store(buf: &mut [u32], i: usize, e: usize, s: usize)
-    requires { ⌜ (i < e) × (e ≤ length (now buf)) × (e ≤ 1048576) × (1 < e - i → s ≤ 1048576) ⌝ }
+    requires { ⌜ (i < e) × (e ≤ length (now buf)) × (e ≤ maxLength) × (1 < e - i → s ≤ maxLength) ⌝ }
     ensures { λ r. ⌜ now (buf .exit) ≡ storedAt (now (buf .entry)) i e s ⌝ }
 {
     let l = e - i;

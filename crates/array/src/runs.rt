@@ -9,6 +9,7 @@ use answer::limits;
 ghost use mathlib.Core.Path.{_≡_};
 ghost use Prim.Native.Nat.{_+_, _-_, _*_, _≤_, _<_};
 ghost use lib.ListN.{length};
+ghost use Rattle.answer.specs.Limits.{maxLength};
 ghost use Rattle.array.specs.Core.State.{RowsOf};
 ghost use Rattle.sorting.specs.Exchange.{put};
 ghost use Rattle.array.specs.Core.RunPass.{StoppedAt, ExtendedTo, LeftExtent, AtRoot, Listed, Visited, Passing, OrderDone, RunsFound};
@@ -62,7 +63,7 @@ fn start_of(text: &[u8], i: usize, p: usize) -> usize
 
 // Writes an entry of the list.
 fn write_entry(list: &mut [u32], count: usize, start: usize, last: usize, period: usize)
-    requires { ⌜ (3 * count + 3 ≤ length (now list)) × (start ≤ 1048576) × (last ≤ 1048576) × (period ≤ 1048576) ⌝ }
+    requires { ⌜ (3 * count + 3 ≤ length (now list)) × (start ≤ maxLength) × (last ≤ maxLength) × (period ≤ maxLength) ⌝ }
     ensures { λ r. ⌜ now (list .exit) ≡ put (now (list .entry)) count (record { start = start; last = last; period = period }) ⌝ }
 {
     list[3 * count] = start as u32;
@@ -80,7 +81,7 @@ fn list_at(
     end: usize,
     k: usize,
 ) -> usize
-    requires { ⌜ AtRoot order (now text) i end k × (3 * count + 3 ≤ length (now list)) × (length (now text) ≤ 1048576) ⌝ }
+    requires { ⌜ AtRoot order (now text) i end k × (3 * count + 3 ≤ length (now list)) × (length (now text) ≤ maxLength) ⌝ }
     ensures { λ r. ⌜ Listed order (now (text .entry)) (now (list .entry)) (now (list .exit)) i count r ⌝ }
 {
     let p = end - i;
@@ -106,7 +107,7 @@ fn visit(
     count: usize,
     i: usize,
 ) -> usize
-    requires { ⌜ (i < length (now text)) × (length (now text) ≤ length (now buf)) × (length (now text) ≤ 1048576) × (3 * count + 3 ≤ length (now list)) × RowsOf order (now text) (now buf) (i + 1) ⌝ }
+    requires { ⌜ (i < length (now text)) × (length (now text) ≤ length (now buf)) × (length (now text) ≤ maxLength) × (3 * count + 3 ≤ length (now list)) × RowsOf order (now text) (now buf) (i + 1) ⌝ }
     ensures { λ r. ⌜ Visited order (now (text .entry)) (now (buf .entry)) (now (buf .exit)) (now (list .entry)) (now (list .exit)) i count r ⌝ }
 {
     let w = bytes::join(text, order, buf, i);
@@ -125,7 +126,7 @@ fn visit(
 
 // Visits every position from the last to the first.
 fn pass(text: &[u8], order: u32, buf: &mut [u32], list: &mut [u32], from: usize) -> usize
-    requires { ⌜ (length (now text) ≤ length (now buf)) × (length (now text) ≤ 1048576) × (3 * from + 3 * length (now text) ≤ length (now list)) ⌝ }
+    requires { ⌜ (length (now text) ≤ length (now buf)) × (length (now text) ≤ maxLength) × (3 * from + 3 * length (now text) ≤ length (now list)) ⌝ }
     ensures { λ r. ⌜ Passing order (now (text .entry)) (now (buf .entry)) (now (buf .exit)) (now (list .entry)) (now (list .exit)) from 0 r ⌝ }
 {
     let mut i = text.len();
@@ -139,7 +140,7 @@ fn pass(text: &[u8], order: u32, buf: &mut [u32], list: &mut [u32], from: usize)
 
 // One order: its array into the buffer, and the runs of that order into the list from entry `from` on; the number of entries then.
 fn order_pass(text: &[u8], order: u32, buf: &mut [u32], list: &mut [u32], from: usize) -> usize
-    requires { ⌜ (length (now text) ≤ length (now buf)) × (length (now text) ≤ 1048576) × (3 * from + 3 * length (now text) ≤ length (now list)) ⌝ }
+    requires { ⌜ (length (now text) ≤ length (now buf)) × (length (now text) ≤ maxLength) × (3 * from + 3 * length (now text) ≤ length (now list)) ⌝ }
     ensures { λ r. ⌜ OrderDone order (now (text .entry)) (now (buf .entry)) (now (buf .exit)) (now (list .entry)) (now (list .exit)) from r ⌝ }
 {
     let count = pass(text, order, buf, list, from);
@@ -149,7 +150,7 @@ fn order_pass(text: &[u8], order: u32, buf: &mut [u32], list: &mut [u32], from: 
 
 // Both orders, the runs sorted by start and then by last position; the number of runs.
 fn find(text: &[u8], work: &mut [u32], list: &mut [u32]) -> usize
-    requires { ⌜ (length (now text) ≤ 1048576) × (6 * length (now text) ≤ length (now list)) × (2 * length (now text) ≤ length (now work)) ⌝ }
+    requires { ⌜ (length (now text) ≤ maxLength) × (6 * length (now text) ≤ length (now list)) × (2 * length (now text) ≤ length (now work)) ⌝ }
     ensures { λ r. ⌜ RunsFound (now (text .entry)) (now (work .entry)) (now (work .exit)) (now (list .entry)) (now (list .exit)) r ⌝ }
 {
     let n = text.len();
