@@ -10,7 +10,7 @@
 #include <time.h>
 
 #define LARGEST 1048576
-#define RUNS 5
+#define RUNS 15
 
 static uint8_t text[LARGEST];
 static uint32_t numbers[LARGEST]; /* a text of 32-bit letters, or an array */
@@ -30,17 +30,22 @@ static double now(void) {
     return (double)t.tv_sec * 1e9 + (double)t.tv_nsec;
 }
 
-/* The best of some runs, in nanoseconds a letter. Short inputs are run many times at a look. */
-static double best(void (*call)(size_t), size_t n) {
+/* One run, in nanoseconds a letter. Short inputs are run many times at a look. */
+static double timed(void (*call)(size_t), size_t n) {
     size_t times = n < 10000 ? 2000 : 1;
-    double least = 1e30;
-    for (int run = 0; run < RUNS; run++) {
-        double start = now();
-        for (size_t t = 0; t < times; t++) call(n);
-        double took = (now() - start) / (double)n / (double)times;
-        if (took < least) least = took;
-    }
-    return least;
+    double start = now();
+    for (size_t t = 0; t < times; t++) call(n);
+    return (now() - start) / (double)n / (double)times;
+}
+
+/* The best of some runs of each call. The calls take turns, so that what else the machine does falls on all of them. */
+static void best(int count, void (*const calls[])(size_t), size_t n, double *least) {
+    for (int c = 0; c < count; c++) least[c] = 1e30;
+    for (int run = 0; run < RUNS; run++)
+        for (int c = 0; c < count; c++) {
+            double took = timed(calls[c], n);
+            if (took < least[c]) least[c] = took;
+        }
 }
 
 /* The calls */
@@ -173,13 +178,14 @@ static struct result table(const struct call *call) {
             call->fill(f, n);
             memset(&ours, 0, sizeof ours);
             memset(&theirs, 0, sizeof theirs);
-            mine[s] = best(call->ours, n);
-            other[s] = best(call->theirs, n);
+            memset(&by_suffixes, 0, sizeof by_suffixes);
+            double least[3];
+            best(suffixes ? 3 : 2, (void (*const[])(size_t)){call->ours, call->theirs, call->suffixes}, n, least);
+            mine[s] = least[0], other[s] = least[1];
             compare(call, f, n, &theirs);
             printf("  %7.2f /%7.2f", mine[s], other[s]);
             if (suffixes) {
-                memset(&by_suffixes, 0, sizeof by_suffixes);
-                printf(" /%7.2f", best(call->suffixes, n));
+                printf(" /%7.2f", least[2]);
                 compare(call, f, n, &by_suffixes);
             }
         }
@@ -213,7 +219,7 @@ int main(void) {
     };
     int count = (int)(sizeof calls / sizeof calls[0]);
     static struct result results[32];
-    printf("best of %d runs%s\n", RUNS, suffix_array_installed() ? "" : "; libdivsufsort is not installed");
+    printf("best of %d runs, taken in turns%s\n", RUNS, suffix_array_installed() ? "" : "; libdivsufsort is not installed");
     for (int c = 0; c < count; c++) results[c] = table(&calls[c]);
     printf("\ngrowth: the largest of ns a letter at the largest size over that at the smallest\n");
     for (int c = 0; c < count; c++)
