@@ -5,6 +5,7 @@
 // of a factor remembers how far the factor agrees with what follows it and with its last part, and comparisons start there. The runs are
 // found in the same loop, once in each order (document 002, RUNS), each at its rightmost root. Contracts cite `specs/Calls.antt` and the
 // definitions of the crate `words`. Nothing is assumed.
+mod agreement;
 pub mod bytes;
 mod joined;
 pub mod numbers;
