@@ -1,6 +1,6 @@
 /* Fegborija: the Lyndon array of a text and what stands on it.
  *
- * Link with the static library that `make lib` writes (lib/liblyndon.a). Every function is proved to do what is said here for every
+ * Link with the static library that `make lib` writes (target/lib/liblyndon.a). Every function is proved to do what is said here for every
  * input; what the proof cannot see is the C side: every pointer must be valid for the number of elements given with it (a pointer with
  * length 0 may be null), and a buffer that is written must not overlap any other buffer of the call.
  *
@@ -28,7 +28,8 @@ extern "C" {
  *   8  the span of entry j, from j to j + array[j] - 1, crosses the end of an earlier entry's span; the position is the first such j
  *   9  a FASTA input does not begin with '>'; the position is 0
  *  10  its name is empty, has a 61st byte, or a byte outside 33 to 126 that does not end it; the position is that byte's, or 1
- *  11  a sequence line has a byte that is no letter, or '>' inside it; the position is that byte's
+ *  11  a sequence line has a byte that is neither a letter nor its end (LF, or CR directly before LF), or '>' inside it; the position
+ *      is that byte's
  *  12  a second record begins; the position is that of its '>'
  *  13  there is no letter; the position is the input's length
  *  14  there is a 2,049th letter; the position is that letter's in the input
