@@ -1,4 +1,4 @@
--- The checks of length and buffers, where they refuse and where they pass.
+-- The checks of length, order and buffers, where they refuse and where they pass.
 -- Assumes nothing.
 use mathlib.Core.Path.{_≡_}
 use Prim.Native.Nat.{ℕ, _<_, _≤_}
@@ -7,7 +7,7 @@ use Rattle.answer.specs.declared.Answer.{Answer}
 use Rattle.answer.specs.declared.Reason.the-variants.{EmptyText, TextTooLong, ShortOutput}
 use Rattle.answer.specs.Answers.{refusedFor}
 use Rattle.answer.specs.Limits.{maxLength}
-use Rattle.answer.specs.Checks.{lengthChecked, outputChecked}
+use Rattle.answer.specs.Checks.{lengthChecked, orderChecked, outputChecked, workChecked}
 
 module _ (n : ℕ) (rest : Answer) where
   -- Refusal 1.
@@ -29,3 +29,11 @@ module _ (n : ℕ) (rest : Answer) where
   -- The buffer is long enough.
   pub output-passes : (given : ℕ) → n ≤ given → outputChecked n given rest ≡ rest
   output-passes given h = simp (le-ltb given n h)
+
+  -- The work buffer is long enough.
+  pub work-passes : (given : ℕ) → n ≤ given → workChecked n given rest ≡ rest
+  work-passes given h = simp (le-ltb given n h)
+
+-- The order is named.
+pub order-passes : (order : ℕ) (rest : Answer) → order ≤ 1 → orderChecked order rest ≡ rest
+order-passes order rest h = simp (le-ltb 1 order h)

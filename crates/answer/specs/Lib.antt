@@ -4,3 +4,4 @@ pub mod Limits
 pub mod Faults
 pub mod Checks
 pub mod CheckLaws
+pub mod AcceptedContent

@@ -9,7 +9,8 @@ use native.Mathlib.Decide.{decLt, ℕ-discrete}
 use lib.ListN.{length, getD, set, take, drop, length-set, length-drop, take-append-drop}
 use lib.Seq.{getD-set-same, getD-set-other, getD-take, getD-drop, ext-getD, length-take-le}
 use borrow.Author.Tests.{lt-ltb, le-ltb}
-use Rattle.words.specs.Letters.{orderOf, decided-order}
+use Rattle.words.specs.Letters.{orderOf}
+use Rattle.words.specs.Decided.{decided-order}
 use Rattle.words.specs.Laws.SpanLyndon.{letters}
 use Rattle.words.specs.Laws.SuffixOrder.{NextSmaller}
 use Rattle.words.specs.Compute.LyndonArray.{arrayOf, arrayOf-holds}

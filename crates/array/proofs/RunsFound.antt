@@ -6,7 +6,8 @@ use Prim.Native.Nat.{ℕ, zero, suc, _+_, _-_, _*_, _<_, _≤_}
 use native.Mathlib.Omega.{arith}
 use lib.ListN.{length, getD, set, take, drop, length-append, length-drop, length-take, take-append-drop, drop-of-length-le}
 use lib.Seq.{set-at, take-at, drop-at, drop-drop, take-all}
-use Rattle.words.specs.Letters.{rising, falling, orderOf, decided-rising, decided-falling, decided-order}
+use Rattle.words.specs.Letters.{rising, falling, orderOf}
+use Rattle.words.specs.Decided.{decided-rising, decided-falling, decided-order}
 use Rattle.words.specs.Equality.{decided-number-equality}
 use Rattle.words.specs.Runs.{Entry, IsRunList, numbers}
 use Rattle.words.specs.Laws.SpanLyndon.{letters}

@@ -3,7 +3,7 @@
 use mathlib.Core.List.{List, _++_}
 use Prim.Native.Nat.{ℕ}
 use lib.ListN.{length}
-use Rattle.words.specs.Letters.{decided-rising, decided-falling}
+use Rattle.words.specs.Decided.{decided-rising, decided-falling}
 use Rattle.words.specs.Equality.{decided-number-equality}
 use Rattle.words.specs.Runs.{Entry, numbers}
 use Rattle.words.specs.Compute.LyndonArray.{arrayOf}

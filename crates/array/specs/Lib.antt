@@ -1,3 +1,4 @@
 pub mod CommonPrefix
 pub mod Calls
 pub mod Core
+pub mod Theorems

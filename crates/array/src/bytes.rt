@@ -15,7 +15,7 @@ ghost use Rattle.array.specs.Core.Join.{JoinedTo};
 ghost use Rattle.array.specs.Core.Fill.{Filled};
 ghost use Rattle.array.specs.Calls.{arrayAnswer};
 ghost use Rattle.answer.specs.Checks.{written, contentAfter};
-ghost use Rattle.words.specs.Letters.{decided-order};
+ghost use Rattle.words.specs.Decided.{decided-order};
 ghost use Rattle.words.specs.Compute.LyndonArray.{arrayOf};
 
 // Letter a is the smaller one of two different letters.

@@ -5,7 +5,7 @@ use mathlib.Core.List.{List}
 use Prim.Native.Nat.{ℕ, zero, suc, _+_, _-_, _<_, _≤_}
 use native.Mathlib.Omega.{arith}
 use lib.ListN.{length}
-use Rattle.words.specs.Letters as words
+use Rattle.words.specs.Decided as words
 use Rattle.factors.specs.declared.order.Comparison.{Comparison}
 use Rattle.factors.specs.declared.order.Comparison.the-variants.{Below, Same, Above}
 use Rattle.factors.specs.Compared.{comparisonOf}

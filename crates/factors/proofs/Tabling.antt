@@ -8,7 +8,7 @@ use native.Mathlib.Omega.{arith}
 use native.Mathlib.Decide.{ℕ-discrete}
 use lib.ListN.{length, getD, set, length-set}
 use lib.Seq.{getD-set-same, getD-set-other}
-use Rattle.words.specs.Letters as words
+use Rattle.words.specs.Decided as words
 use Rattle.words.specs.SuffixTable.{LongestTo}
 use Rattle.words.specs.Laws.SpanLyndon.{letters}
 use Rattle.words.specs.Laws.Repetition.{Repetition, letter-lyndon, repetition-start, repetition-longer, repetition-extended, lyndon-extended}
@@ -120,7 +120,7 @@ module _ (x before out : List ℕ) (start period end : ℕ)
         let m : Said words.same = said words.same (is-same (answerAt decided-default 0 x period end) (sym q ∙ e)) in
         let o : suc end ≡ end + 1 = omega arith in
         let longer : Repetition defaultOrder (letters 0 x) start period (suc end) =
-        repetition-longer defaultOrder (letters 0 x) start period end (w .repetition) (end - period) back (sym m) in
+        repetition-longer defaultOrder (letters 0 x) start period end (w .repetition) (end - period) back (sym (m .lower)) in
         let i : ℕ = end - period in
         let before-it : LongestTo defaultOrder x i (getD out i 0) = w .table .entry i (omega (arith, w .repetition .whole, w .repetition .lyndon .non-empty)) in
         let c : LongestEnding defaultOrder (letters 0 x) (before-it .start + period) (suc i + period) =

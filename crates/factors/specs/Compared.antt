@@ -1,6 +1,6 @@
 -- The answers of a comparison, as the code has them.
 -- Assumes nothing.
-use Rattle.words.specs.Letters as words
+use Rattle.words.specs.Decided as words
 use Rattle.factors.specs.declared.order.Comparison.{Comparison}
 use Rattle.factors.specs.declared.order.Comparison.the-variants.{Below, Same, Above}
 

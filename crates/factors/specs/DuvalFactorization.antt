@@ -9,7 +9,8 @@ use native.Mathlib.Omega.{arith}
 use lib.Dec.{ltb}
 use lib.ListN.{length}
 use borrow.Author.Tests.{ltb-true, ltb-false}
-use Rattle.words.specs.Letters.{Letters, Decided, Comparison, below, same, above, Means}
+use Rattle.words.specs.Letters.{Letters}
+use Rattle.words.specs.Decided.{Decided, Comparison, below, same, above, Means}
 use Rattle.words.specs.Compute.Factorization.{factorizationOf, factorizationOf-holds}
 use Rattle.words.specs.Laws.SpanLyndon.{letters}
 use Rattle.words.specs.Laws.SuffixOrder.{NextSmaller}
@@ -20,12 +21,12 @@ use Rattle.factors.specs.Duval.{scanFrom, scanOf, stretchAt, factorsFrom
 use Rattle.factors.specs.DuvalSteps.{answerAt}
 
 -- A scan from `start` has stopped with the stretch s: what it read repeats a Lyndon word, and cannot be continued.
-pub record Stopped {A : Type 0} (O : Letters A) (x : ℕ → A) (n start : ℕ) (s : Stretch) : Type 0 where
+pub record Stopped {ℓ κ} {A : Type ℓ} (O : Letters {ℓ, κ} A) (x : ℕ → A) (n start : ℕ) (s : Stretch) : Type (ℓ ⊔ κ) where
   pub repetition : Repetition O x start (s .period) (s .end)
   pub inside : s .end ≤ n
   pub stops : Stops O x n (s .period) (s .end)
 
-module _ {A : Type 0} (O : Letters A) (x : ℕ → A) (n : ℕ) where
+module _ {ℓ κ} {A : Type ℓ} (O : Letters {ℓ, κ} A) (x : ℕ → A) (n : ℕ) where
   -- The first copy is a factor.
   pub stopped-next : (start : ℕ) (s : Stretch) → Stopped O x n start s → NextSmaller O x n start (start + s .period)
   stopped-next start s w = repetition-ends O x start (s .period) (s .end) (w .repetition) n (w .inside) (w .stops)
@@ -36,7 +37,7 @@ module _ {A : Type 0} (O : Letters A) (x : ℕ → A) (n : ℕ) where
   stopped-rest start s w l =
       record { repetition = repetition-next O x start (s .period) (s .end) (w .repetition) l; inside = w .inside; stops = w .stops }
 
-module _ {A : Type 0} {O : Letters A} (D : Decided O) (z : A) (x : List A) where
+module _ {ℓ κ} {A : Type ℓ} {O : Letters {ℓ, κ} A} (D : Decided O) (z : A) (x : List A) where
   scanFrom-stopped : (fuel start p j : ℕ) → Repetition O (letters z x) start p j → j + fuel ≡ length x →
       Stopped O (letters z x) (length x) start (scanFrom D z x fuel start p j)
   scanFrom-stopped zero start p j r e = record { repetition = r; inside = omega arith; stops = inl (omega arith) }
@@ -56,7 +57,7 @@ module _ {A : Type 0} {O : Letters A} (D : Decided O) (z : A) (x : List A) where
             | above ↦ scanFrom D z x fuel start (suc j - start) (suc j)
           ])
       go below m rest = record { repetition = r; inside = omega arith; stops = inr (j - p, back, omega arith, m) }
-      go same m rest = rest p (suc j) (repetition-longer O (letters z x) start p j r (j - p) back (sym m)) (omega arith)
+      go same m rest = rest p (suc j) (repetition-longer O (letters z x) start p j r (j - p) back (sym (m .lower))) (omega arith)
       go above m rest =
           rest (suc j - start) (suc j)
           (repetition-extended O (letters z x) start p j r (j - p) (suc j - start) back m (omega (arith, r .whole)))
@@ -68,7 +69,7 @@ module _ {A : Type 0} {O : Letters A} (D : Decided O) (z : A) (x : List A) where
       scanFrom-stopped (length x - suc start) start 1 (suc start) (repetition-start O (letters z x) start) (omega arith)
 
   -- While the stretch s holds one more copy of its period, it is that of a scan from `start`.
-  abbrev pub Remains : ℕ → Stretch → Type 0
+  abbrev pub Remains : ℕ → Stretch → Type (ℓ ⊔ κ)
   Remains start s = start + s .period ≤ s .end → Stopped O (letters z x) (length x) start s
 
   pub stretch-stopped : (start : ℕ) (s : Stretch) → start < length x → Remains start s →

@@ -8,7 +8,8 @@ use native.Mathlib.Omega.{arith}
 use lib.Dec.{ltb}
 use lib.ListN.{length, getD}
 use borrow.Author.Tests.{ltb-false, lt-ltb, le-ltb}
-use Rattle.words.specs.Letters.{Letters, Decided, Comparison, below, same, above}
+use Rattle.words.specs.Letters.{Letters}
+use Rattle.words.specs.Decided.{Decided, Comparison, below, same, above}
 use Rattle.factors.specs.declared.scan.Stretch.{Stretch}
 use Rattle.factors.specs.Duval.{scanFrom, scanOf, stretchAt, factorsFrom}
 
@@ -23,7 +24,7 @@ pub record Kept (n : ℕ) (s : Stretch) : Type 0 where
   pub positive : 0 < s .period
   pub inside : s .end ≤ n
 
-module _ {A : Type 0} {O : Letters A} (D : Decided O) (z : A) (x : List A) where
+module _ {ℓ κ} {A : Type ℓ} {O : Letters {ℓ, κ} A} (D : Decided O) (z : A) (x : List A) where
   -- The answer of the comparison at position j, with period p.
   abbrev pub answerAt : ℕ → ℕ → Comparison
   answerAt p j = D .compare (getD x j z) (getD x (j - p) z)

@@ -7,3 +7,4 @@ pub mod Room
 pub mod Results
 pub mod Links
 pub mod Answers
+pub mod Theorems

@@ -6,7 +6,7 @@ use Prim.Native.Nat.{ℕ, _+_, _<_, _≤_}
 use lib.ListN.{length, getD}
 use Rattle.words.specs.SuffixTable.{LongestTo}
 use Rattle.words.specs.Compute.Factorization.{factorizationOf}
-use Rattle.words.specs.Compute.Forest.{leftFirstOf, leftPastOf}
+use Rattle.words.specs.Compute.LeftForest.{leftFirstOf, leftPastOf}
 use Rattle.words.specs.Laws.SpanLyndon.{letters}
 use Rattle.words.specs.Laws.LowestSuffix.{Lowest}
 use Rattle.answer.specs.Limits.{maxLength}

@@ -8,7 +8,7 @@ ghost use mathlib.Core.Path.{_≡_};
 ghost use Prim.Native.Nat.{ℕ, _<_};
 ghost use lib.ListN.{length};
 ghost use Rattle.words.specs.Compute.Factorization.{factorizationOf};
-ghost use Rattle.words.specs.Compute.Forest.{leftFirstOf, leftPastOf};
+ghost use Rattle.words.specs.Compute.LeftForest.{leftFirstOf, leftPastOf};
 ghost use Rattle.answer.specs.Checks.{contentAfter};
 ghost use Rattle.factors.specs.Default.{decided-default};
 ghost use Rattle.factors.specs.Room.{Room};

@@ -1,5 +1,5 @@
 -- What the contracts of the calls say of texts, over letters of any kind under any total order: which arrays are refused, and what is
--- written for the others.
+-- written for the others. Every theorem holds for letters and orders of every level.
 -- Assumes nothing.
 use mathlib.Core.Path.{_≡_, refl, sym, ap, subst, _∙_}
 use mathlib.Core.Logic.{_↔_, Iff·trans}
@@ -7,7 +7,6 @@ use mathlib.Core.List.{List}
 use Prim.Native.Nat.{ℕ, _≤_}
 use native.Mathlib.Omega.{arith}
 use lib.ListN.{length, take, drop}
-use lib.Seq.{take-at}
 use Rattle.words.specs.Letters.{Letters, rising}
 use Rattle.words.specs.LyndonArray.{IsLyndonArray}
 use Rattle.words.specs.RightForest.{IsRightForest}
@@ -20,15 +19,10 @@ use Rattle.words.specs.Laws.ArrayForest.{length-forestFirst, length-forestPast}
 use Rattle.words.specs.ArrayTheorems.{TextWith, Faulty, valid-exactly, passed-exactly, refused-exactly, text-for-has-array, text-for-each-once, forest-of-every-text}
 use Rattle.answer.specs.declared.Answer.{Answer}
 use Rattle.answer.specs.Answers.{acceptedWith, number}
-use Rattle.answer.specs.Limits.{maxLength}
 use Rattle.answer.specs.Checks.{outputChecked, contentAfter}
-use Rattle.answer.specs.CheckLaws.{length-passes, output-passes}
+use Rattle.answer.specs.CheckLaws.{output-passes}
+use Rattle.answer.specs.AcceptedContent.{Sized, sized-passes, written-first, written-rest}
 use Rattle.from_array.specs.Answers.{verdictAnswer, arrayChecked, reconstructAnswer, rightForestAnswer}
-
--- An array of 1 to 1,048,576 entries.
-pub record Sized (a : List ℕ) : Type 0 where
-  pub some : 1 ≤ length a
-  pub short : length a ≤ maxLength
 
 -- An answer that refuses the array: document 01's number 6, 7 or 8.
 pub record RefusesArray (r : Answer) : Type 0 where
@@ -53,70 +47,100 @@ refuses-faulty a = (
     numbered long-entry i = record { from = omega arith; to = omega arith }
     numbered crossing i = record { from = omega arith; to = omega arith }
 
-accepts-passed : (a : List ℕ) → checkArray a ≡ fits → arrayChecked a ≡ acceptedWith (length a)
-accepts-passed a e = ap (verdictAnswer (length a)) e
+accepts-passed : (a : List ℕ) → (arrayChecked a ≡ acceptedWith (length a)) ↔ (checkArray a ≡ fits)
+accepts-passed a = (λ e. go (checkArray a) refl e, ap (verdictAnswer (length a)))
+  where
+    go : (v : Verdict) → checkArray a ≡ v → verdictAnswer (length a) (checkArray a) ≡ acceptedWith (length a) → checkArray a ≡ fits
+    go fits e h = e
+    go (fault f i) e h = absurd (refused f (ap number (ap (verdictAnswer (length a)) (sym e) ∙ h)))
+      where
+        refused : (f : Fault) → number (verdictAnswer (length a) (fault f i)) ≡ number (acceptedWith (length a)) → ⊥
+        refused zero-entry q = omega (arith, q)
+        refused long-entry q = omega (arith, q)
+        refused crossing q = omega (arith, q)
 
--- The first places of a buffer after an accepted call.
-written-first : (r : Answer) (n : ℕ) (l before : List ℕ) → r ≡ acceptedWith n → length l ≡ n → take n (contentAfter r l before) ≡ l
-written-first r n l before e s = ap (λ (q : Answer). take n (contentAfter q l before)) e ∙ take-at l (drop (length l) before) n s
+-- What `reconstruct` leaves in its buffer, by its contract.
+abbrev pub textAfter : List ℕ → List ℕ → List ℕ
+textAfter a text = contentAfter (reconstructAnswer a (length text)) (textFor a) text
+
+-- What `right_forest` leaves in its first buffer, by its contract.
+abbrev pub firstAfter : List ℕ → List ℕ → List ℕ → List ℕ
+firstAfter a first past = contentAfter (rightForestAnswer a (length first) (length past)) (forestFirst a) first
+
+-- And in its second.
+abbrev pub pastAfter : List ℕ → List ℕ → List ℕ → List ℕ
+pastAfter a first past = contentAfter (rightForestAnswer a (length first) (length past)) (forestPast a) past
 
 -- `reconstruct`, with a text buffer that is long enough.
-module _ (a : List ℕ) (sized : Sized a) (text : ℕ) (room : length a ≤ text) where
-  reconstruct-checked : reconstructAnswer a text ≡ arrayChecked a
+module _ (a : List ℕ) (sized : Sized (length a)) (text : List ℕ) (room : length a ≤ length text) where
+  -- Its answer is then that of the entries and spans alone.
+  pub reconstruct-checked : reconstructAnswer a (length text) ≡ arrayChecked a
   reconstruct-checked =
-      length-passes (length a) (outputChecked (length a) text (arrayChecked a)) (λ e. omega (arith, sized .some)) (sized .short) ∙
-      output-passes (length a) (arrayChecked a) text room
+      sized-passes (length a) sized (outputChecked (length a) (length text) (arrayChecked a)) ∙
+      output-passes (length a) (arrayChecked a) (length text) room
 
   -- It refuses the array exactly when no text over any totally ordered letters has it.
-  pub reconstruct-refuses-exactly : RefusesArray (reconstructAnswer a text) ↔ (¬ TextWith a)
+  pub reconstruct-refuses-exactly {ℓ κ} : RefusesArray (reconstructAnswer a (length text)) ↔ (¬ TextWith {ℓ, κ} a)
   reconstruct-refuses-exactly = rw reconstruct-checked (Iff·trans (refuses-faulty a) (refused-exactly a))
 
-  -- Where some text has the array, it accepts.
-  pub reconstruct-accepts : TextWith a → reconstructAnswer a text ≡ acceptedWith (length a)
-  reconstruct-accepts t = reconstruct-checked ∙ accepts-passed a (passed-exactly a .1 t)
+  -- It accepts, with the count n, exactly when some text has the array.
+  pub reconstruct-accepts-exactly {ℓ κ} : (reconstructAnswer a (length text) ≡ acceptedWith (length a)) ↔ TextWith {ℓ, κ} a
+  reconstruct-accepts-exactly = rw reconstruct-checked (Iff·trans (accepts-passed a) (passed-exactly a))
 
-  -- The text that it then writes has, in rising order, exactly that array, and each of the letters 0 to n − 1 once.
-  pub written-text-has-array : TextWith a → (before : List ℕ)
-      → IsLyndonArray rising (take (length a) (contentAfter (reconstructAnswer a text) (textFor a) before)) a
-  written-text-has-array t before =
-      rw (written-first (reconstructAnswer a text) (length a) (textFor a) before (reconstruct-accepts t) (length-textFor a))
-      (text-for-has-array a (valid-exactly a .1 t))
+  module _ {ℓ κ} (t : TextWith {ℓ, κ} a) where
+    -- Then the first n places hold the text that document 01 writes, and the others what they held before.
+    pub written-text : (take (length a) (textAfter a text) ≡ textFor a) × (drop (length a) (textAfter a text) ≡ drop (length a) text)
+    written-text =
+        let yes = reconstruct-accepts-exactly .1 t in (
+          written-first (reconstructAnswer a (length text)) (length a) (length a) (textFor a) text yes (length-textFor a),
+          written-rest (reconstructAnswer a (length text)) (length a) (length a) (textFor a) text yes (length-textFor a),
+        )
 
-  pub written-text-each-once : TextWith a → (before : List ℕ)
-      → EachOnce (length a) (take (length a) (contentAfter (reconstructAnswer a text) (textFor a) before))
-  written-text-each-once t before =
-      rw (written-first (reconstructAnswer a text) (length a) (textFor a) before (reconstruct-accepts t) (length-textFor a))
-      (text-for-each-once a (valid-exactly a .1 t))
+    -- That text has, in rising order, exactly that array.
+    pub written-text-has-array : IsLyndonArray rising (take (length a) (textAfter a text)) a
+    written-text-has-array = rw (written-text .0) (text-for-has-array a (valid-exactly a .1 t))
+
+    -- And each of the letters 0 to n − 1 once.
+    pub written-text-each-once : EachOnce (length a) (take (length a) (textAfter a text))
+    written-text-each-once = rw (written-text .0) (text-for-each-once a (valid-exactly a .1 t))
 
 -- `right_forest`, with buffers that are long enough.
-module _ (a : List ℕ) (sized : Sized a) (first past : ℕ) (first-room : length a ≤ first) (past-room : length a ≤ past) where
-  right-forest-checked : rightForestAnswer a first past ≡ arrayChecked a
+module _ (a : List ℕ) (sized : Sized (length a)) (first past : List ℕ) (first-room : length a ≤ length first) (past-room : length a ≤ length past) where
+  -- Its answer is then that of the entries and spans alone.
+  pub right-forest-checked : rightForestAnswer a (length first) (length past) ≡ arrayChecked a
   right-forest-checked =
-      length-passes (length a) (outputChecked (length a) first (outputChecked (length a) past (arrayChecked a))) (λ e. omega (arith, sized .some))
-      (sized .short) ∙
-      output-passes (length a) (outputChecked (length a) past (arrayChecked a)) first first-room ∙
-      output-passes (length a) (arrayChecked a) past past-room
+      sized-passes (length a) sized (outputChecked (length a) (length first) (outputChecked (length a) (length past) (arrayChecked a))) ∙
+      output-passes (length a) (outputChecked (length a) (length past) (arrayChecked a)) (length first) first-room ∙
+      output-passes (length a) (arrayChecked a) (length past) past-room
 
   -- It refuses the array exactly when no text over any totally ordered letters has it.
-  pub right-forest-refuses-exactly : RefusesArray (rightForestAnswer a first past) ↔ (¬ TextWith a)
+  pub right-forest-refuses-exactly {ℓ κ} : RefusesArray (rightForestAnswer a (length first) (length past)) ↔ (¬ TextWith {ℓ, κ} a)
   right-forest-refuses-exactly = rw right-forest-checked (Iff·trans (refuses-faulty a) (refused-exactly a))
 
   -- Both calls give one answer, so they refuse alike.
-  pub answer-alike : (text : ℕ) → length a ≤ text → reconstructAnswer a text ≡ rightForestAnswer a first past
+  pub answer-alike : (text : List ℕ) → length a ≤ length text → reconstructAnswer a (length text) ≡ rightForestAnswer a (length first) (length past)
   answer-alike text room = reconstruct-checked a sized text room ∙ sym right-forest-checked
 
-  -- Where some text has the array, it accepts.
-  pub right-forest-accepts : TextWith a → rightForestAnswer a first past ≡ acceptedWith (length a)
-  right-forest-accepts t = right-forest-checked ∙ accepts-passed a (passed-exactly a .1 t)
+  -- It accepts, with the count n, exactly when some text has the array.
+  pub right-forest-accepts-exactly {ℓ κ} : (rightForestAnswer a (length first) (length past) ≡ acceptedWith (length a)) ↔ TextWith {ℓ, κ} a
+  right-forest-accepts-exactly = rw right-forest-checked (Iff·trans (accepts-passed a) (passed-exactly a))
 
-  -- What it then writes is the right forest of every text that has the array.
-  pub written-forest : {A : Type 0} (O : Letters A) (x : List A) → IsLyndonArray O x a → (before-first before-past : List ℕ)
-      → IsRightForest O x (take (length a) (contentAfter (rightForestAnswer a first past) (forestFirst a) before-first))
-      (take (length a) (contentAfter (rightForestAnswer a first past) (forestPast a) before-past))
-  written-forest {A = A} O x h before-first before-past =
-      let yes = right-forest-accepts (record { Letter = A; order = O; text = x; has = h }) in
-      rw (
-        written-first (rightForestAnswer a first past) (length a) (forestFirst a) before-first yes (length-forestFirst a),
-        written-first (rightForestAnswer a first past) (length a) (forestPast a) before-past yes (length-forestPast a),
+  -- Then both buffers hold in their first n places what is read off the array, and in the others what they held before.
+  pub written-buffers {ℓ κ} : TextWith {ℓ, κ} a
+      → (take (length a) (firstAfter a first past) ≡ forestFirst a) × (take (length a) (pastAfter a first past) ≡ forestPast a) ×
+      (drop (length a) (firstAfter a first past) ≡ drop (length a) first) × (drop (length a) (pastAfter a first past) ≡ drop (length a) past)
+  written-buffers t =
+      let r = rightForestAnswer a (length first) (length past) in
+      let yes = right-forest-accepts-exactly .1 t in (
+        written-first r (length a) (length a) (forestFirst a) first yes (length-forestFirst a),
+        written-first r (length a) (length a) (forestPast a) past yes (length-forestPast a),
+        written-rest r (length a) (length a) (forestFirst a) first yes (length-forestFirst a),
+        written-rest r (length a) (length a) (forestPast a) past yes (length-forestPast a),
       )
-      (forest-of-every-text O x a h)
+
+  -- That is the right forest of every text that has the array.
+  pub written-forest {ℓ κ} : {A : Type ℓ} (O : Letters {ℓ, κ} A) (x : List A) → IsLyndonArray O x a
+      → IsRightForest O x (take (length a) (firstAfter a first past)) (take (length a) (pastAfter a first past))
+  written-forest {A = A} O x h =
+      let w = written-buffers (record { Letter = A; order = O; text = x; has = h }) in
+      rw (w .0, w .1) (forest-of-every-text O x a h)

@@ -13,11 +13,11 @@ ghost use Rattle.factors.specs.Answers.{factorizationAnswer, suffixTableAnswer,
 ghost use Rattle.from_array.specs.Answers.{reconstructAnswer, rightForestAnswer};
 ghost use Rattle.words.specs.ArrayForest.{forestFirst, forestPast};
 ghost use Rattle.words.specs.ValidArray.{textFor};
-ghost use Rattle.words.specs.Letters.{decided-order};
+ghost use Rattle.words.specs.Decided.{decided-order};
 ghost use Rattle.words.specs.Compute.LyndonArray.{arrayOf};
 ghost use Rattle.words.specs.Compute.Factorization.{factorizationOf};
 ghost use Rattle.words.specs.Compute.SuffixTable.{suffixTableOf};
-ghost use Rattle.words.specs.Compute.Forest.{leftFirstOf, leftPastOf};
+ghost use Rattle.words.specs.Compute.LeftForest.{leftFirstOf, leftPastOf};
 
 // An answer as C has it: number 0 and the count, or the refusal's number and the position.
 #[repr(C)]

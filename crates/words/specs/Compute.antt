@@ -4,6 +4,7 @@ pub mod Search
 pub mod LyndonArray
 pub mod Factorization
 pub mod SuffixTable
-pub mod Forest
+pub mod LeftForest
+pub mod RightForest
 pub mod Runs
 pub mod ValidArray

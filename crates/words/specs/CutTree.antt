@@ -8,23 +8,23 @@ use Rattle.words.specs.Letters.{Letters}
 use Rattle.words.specs.Factorization.{IsFactorization}
 
 -- The span from a to b is one letter, or is cut before c as the rule says, and both parts are cut likewise.
-pub data CutTree (Rule : ℕ → ℕ → ℕ → Type 0) : ℕ → ℕ → Type 0 where
+pub data CutTree {ρ} (Rule : ℕ → ℕ → ℕ → Type ρ) : ℕ → ℕ → Type ρ where
   letter : {a b : ℕ} → b ≡ suc a → CutTree Rule a b
   cut : {a b : ℕ} (c : ℕ) → Rule a c b → CutTree Rule a c → CutTree Rule c b → CutTree Rule a b
 
 -- The positions before which the tree is cut, from left to right.
-abbrev pub cuts : {Rule : ℕ → ℕ → ℕ → Type 0} {a b : ℕ} → CutTree Rule a b → List ℕ
+abbrev pub cuts {ρ} : {Rule : ℕ → ℕ → ℕ → Type ρ} {a b : ℕ} → CutTree Rule a b → List ℕ
 cuts (letter e) = []
 cuts (cut c r u v) = cuts u ++ (c ∷ cuts v)
 
 -- FIRST and PAST hold what document 01 says of each cut of the tree: before c, FIRST holds the start of u and PAST the end of v's span.
-abbrev pub Recorded : {Rule : ℕ → ℕ → ℕ → Type 0} {a b : ℕ} → List ℕ → List ℕ → CutTree Rule a b → Type 0
+abbrev pub Recorded {ρ} : {Rule : ℕ → ℕ → ℕ → Type ρ} {a b : ℕ} → List ℕ → List ℕ → CutTree Rule a b → Type 0
 Recorded first past (letter e) = Unit {0}
 Recorded first past (cut {a = a} {b = b} c r u v) =
     (getD first c 0 ≡ a) × (getD past c 0 ≡ b) × Recorded first past u × Recorded first past v
 
 -- One factor of the forest: its start holds itself in both lists, and its cuts are recorded.
-pub record Tree (Rule : ℕ → ℕ → ℕ → Type 0) (first past : List ℕ) (a b : ℕ) : Type 0 where
+pub record Tree {ρ} (Rule : ℕ → ℕ → ℕ → Type ρ) (first past : List ℕ) (a b : ℕ) : Type ρ where
   pub own-first : getD first a 0 ≡ a
   pub own-past : getD past a 0 ≡ a
   pub tree : CutTree Rule a b
@@ -32,7 +32,7 @@ pub record Tree (Rule : ℕ → ℕ → ℕ → Type 0) (first past : List ℕ) 
 
 -- FIRST and PAST are the forest of x under a rule of cutting (document 01, "The calls"): one tree for each factor, which ends where the
 -- next one starts, the last at the end of the text.
-pub record IsForest {A : Type 0} (O : Letters A) (Rule : ℕ → ℕ → ℕ → Type 0) (x : List A) (first past : List ℕ) : Type 0 where
+pub record IsForest {ℓ κ ρ} {A : Type ℓ} (O : Letters {ℓ, κ} A) (Rule : ℕ → ℕ → ℕ → Type ρ) (x : List A) (first past : List ℕ) : Type (ℓ ⊔ κ ⊔ ρ) where
   pub first-size : length first ≡ length x
   pub past-size : length past ≡ length x
   pub factor-starts : List ℕ

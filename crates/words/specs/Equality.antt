@@ -5,10 +5,11 @@ use mathlib.Core.Logic.{_↔_}
 use mathlib.Core.Bool.{Bool, true, false}
 use Prim.Native.Nat.{ℕ}
 use lib.Dec.{T, eqb, eqb→eq, eqb-refl}
-use Rattle.words.specs.Letters.{Letters, Comparison, below, same, above, Means, Decided}
+use Rattle.words.specs.Letters.{Letters}
+use Rattle.words.specs.Decided.{Comparison, below, same, above, Means, Decided}
 
 -- A test that passes exactly for equal letters: what a form that computes needs where no order is used.
-pub record DecidedEquality (A : Type 0) : Type 0 where
+pub record DecidedEquality {ℓ} (A : Type ℓ) : Type ℓ where
   pub equal : A → A → Bool
   pub right : (a b : A) → T (equal a b) ↔ (a ≡ b)
 
@@ -25,13 +26,13 @@ isSame below = false
 isSame same = true
 isSame above = false
 
-pub isSame-right : {A : Type 0} (O : Letters A) (c : Comparison) (a b : A) → Means O c a b → T (isSame c) ↔ (a ≡ b)
+pub isSame-right {ℓ κ} : {A : Type ℓ} (O : Letters {ℓ, κ} A) (c : Comparison) (a b : A) → Means O c a b → T (isSame c) ↔ (a ≡ b)
 isSame-right O below a b m = (λ t. absurd t, λ e. m .0 e)
-isSame-right O same a b m = (λ t. m, λ e. tt)
+isSame-right O same a b m = (λ t. m .lower, λ e. tt)
 isSame-right O above a b m = (λ t. absurd t, λ e. m .0 (sym e))
 
 -- A way to decide comparisons decides equality.
-abbrev pub decided-equality : {A : Type 0} {O : Letters A} → Decided O → DecidedEquality A
+abbrev pub decided-equality {ℓ κ} : {A : Type ℓ} {O : Letters {ℓ, κ} A} → Decided O → DecidedEquality A
 decided-equality {O = O} D =
     record {
       equal = λ a b. isSame (D .compare a b);

@@ -5,7 +5,8 @@
 use mathlib.Core.Path.{_≡_}
 use mathlib.Core.List.{List}
 use Prim.Native.Nat.{ℕ}
-use Rattle.words.specs.Letters.{Letters, Decided}
+use Rattle.words.specs.Letters.{Letters}
+use Rattle.words.specs.Decided.{Decided}
 use Rattle.words.specs.Equality.{DecidedEquality}
 use Rattle.words.specs.LyndonArray.{IsLyndonArray}
 use Rattle.words.specs.Factorization.{IsFactorization}
@@ -16,7 +17,8 @@ use Rattle.words.specs.Runs.{IsRunList}
 use Rattle.words.specs.Compute.LyndonArray.{arrayOf, arrayOf-holds}
 use Rattle.words.specs.Compute.Factorization.{factorizationOf, factorizationOf-holds}
 use Rattle.words.specs.Compute.SuffixTable.{suffixTableOf, suffixTableOf-holds}
-use Rattle.words.specs.Compute.Forest.{rightFirstOf, rightPastOf, leftFirstOf, leftPastOf, rightForestOf-holds, leftForestOf-holds}
+use Rattle.words.specs.Compute.LeftForest.{leftFirstOf, leftPastOf, leftForestOf-holds}
+use Rattle.words.specs.Compute.RightForest.{rightFirstOf, rightPastOf, rightForestOf-holds}
 use Rattle.words.specs.Compute.Runs.{runsOf, runsOf-holds}
 use Rattle.words.specs.Compute.ValidArray.{HasVerdict, checkArray, checkArray-holds}
 use Rattle.words.specs.Laws.Lyndon.{LyndonTest}
@@ -28,9 +30,8 @@ use Rattle.words.specs.Laws.ForestUnique.{right-forest-unique, left-fore
 use Rattle.words.specs.Laws.Runs.{run-list-unique}
 use Rattle.words.specs.Laws.ValidArray.{verdict-unique}
 
--- One value has the property, and no other has it.
-pub record ExactlyOne {B : Type 0} (P : B → Type 0) : Type 0 where
-  pub value : B
+-- The value has the property, and no other has it.
+pub record ExactlyOne {ℓ κ} {B : Type ℓ} (P : B → Type κ) (value : B) : Type (ℓ ⊔ κ) where
   pub holds : P value
   pub only : (b : B) → P b → b ≡ value
 
@@ -39,8 +40,16 @@ pub record Buffers : Type 0 where
   pub first : List ℕ
   pub past : List ℕ
 
+-- Both lists are the right forest of x.
+abbrev pub RightForestOf {ℓ κ} : {A : Type ℓ} → Letters {ℓ, κ} A → List A → Buffers → Type (ℓ ⊔ κ)
+RightForestOf O x b = IsRightForest O x (b .first) (b .past)
+
+-- Both lists are the left forest of x.
+abbrev pub LeftForestOf {ℓ κ} : {A : Type ℓ} → Letters {ℓ, κ} A → List A → Buffers → Type (ℓ ⊔ κ)
+LeftForestOf O x b = IsLeftForest O x (b .first) (b .past)
+
 -- No two values have the property, and that none has it is refuted.
-pub record NeitherTwoNorNone {B : Type 0} (P : B → Type 0) : Type 0 where
+pub record NeitherTwoNorNone {ℓ κ} {B : Type ℓ} (P : B → Type κ) : Type (ℓ ⊔ κ) where
   pub not-two : (b c : B) → P b → P c → b ≡ c
   pub not-none : ¬ ¬ ((b : B) × P b)
 
@@ -48,45 +57,33 @@ pub record NeitherTwoNorNone {B : Type 0} (P : B → Type 0) : Type 0 where
 both-buffers : {b c : Buffers} → (b .first ≡ c .first) × (b .past ≡ c .past) → b ≡ c
 both-buffers e = λ i. record { first = e .0 i; past = e .1 i }
 
-module _ {A : Type 0} {O : Letters A} (D : Decided O) (x : List A) where
-  pub one-array : ExactlyOne (IsLyndonArray O x)
-  one-array = record { value = arrayOf D x; holds = arrayOf-holds D x; only = λ b h. array-unique h (arrayOf-holds D x) }
+module _ {ℓ κ} {A : Type ℓ} {O : Letters {ℓ, κ} A} (D : Decided O) (x : List A) where
+  pub one-array : ExactlyOne (IsLyndonArray O x) (arrayOf D x)
+  one-array = record { holds = arrayOf-holds D x; only = λ b h. array-unique h (arrayOf-holds D x) }
 
-  pub one-factorization : ExactlyOne (IsFactorization O x)
+  pub one-factorization : ExactlyOne (IsFactorization O x) (factorizationOf D x)
   one-factorization =
       record {
-        value = factorizationOf D x;
         holds = factorizationOf-holds D x;
         only = λ b h. factorization-unique O x b (factorizationOf D x) h (factorizationOf-holds D x);
       }
 
-  pub one-suffix-table : ExactlyOne (IsSuffixTable O x)
-  one-suffix-table =
-      record { value = suffixTableOf D x; holds = suffixTableOf-holds D x; only = λ b h. suffix-table-unique h (suffixTableOf-holds D x) }
+  pub one-suffix-table : ExactlyOne (IsSuffixTable O x) (suffixTableOf D x)
+  one-suffix-table = record { holds = suffixTableOf-holds D x; only = λ b h. suffix-table-unique h (suffixTableOf-holds D x) }
 
-  pub one-right-forest : ExactlyOne (λ (b : Buffers). IsRightForest O x (b .first) (b .past))
+  pub one-right-forest : ExactlyOne (RightForestOf O x) (record { first = rightFirstOf D x; past = rightPastOf D x })
   one-right-forest =
-      let s = factorizationOf D x in
-      let holds = rightForestOf-holds D x (factorizationOf-holds D x) in
-      record {
-        value = record { first = rightFirstOf D x s; past = rightPastOf D x s };
-        holds = holds;
-        only = λ b h. both-buffers (right-forest-unique h holds);
-      }
+      record { holds = rightForestOf-holds D x; only = λ b h. both-buffers (right-forest-unique h (rightForestOf-holds D x)) }
 
-  pub one-left-forest : ExactlyOne (λ (b : Buffers). IsLeftForest O x (b .first) (b .past))
+  pub one-left-forest :
+      let s = factorizationOf D x in ExactlyOne (LeftForestOf O x) (record { first = leftFirstOf D x s; past = leftPastOf D x s })
   one-left-forest =
-      let s = factorizationOf D x in
       let holds = leftForestOf-holds D x (factorizationOf-holds D x) in
-      record {
-        value = record { first = leftFirstOf D x s; past = leftPastOf D x s };
-        holds = holds;
-        only = λ b h. both-buffers (left-forest-unique h holds);
-      }
+      record { holds = holds; only = λ b h. both-buffers (left-forest-unique h holds) }
 
 -- All ordered letters, with no comparison decided.
-module _ {A : Type 0} (O : Letters A) (x : List A) where
-  tested : {B : Type 0} {P : B → Type 0} → (LyndonTest O x → (b : B) × P b) → ¬ ¬ ((b : B) × P b)
+module _ {ℓ κ} {A : Type ℓ} (O : Letters {ℓ, κ} A) (x : List A) where
+  tested {μ ν} : {B : Type μ} {P : B → Type ν} → (LyndonTest O x → (b : B) × P b) → ¬ ¬ ((b : B) × P b)
   tested found never = test-irrefutable O x (λ t. never (found t))
 
   pub array-for-all : NeitherTwoNorNone (IsLyndonArray O x)
@@ -98,26 +95,26 @@ module _ {A : Type 0} (O : Letters A) (x : List A) where
   pub suffix-table-for-all : NeitherTwoNorNone (IsSuffixTable O x)
   suffix-table-for-all = record { not-two = λ b c h k. suffix-table-unique h k; not-none = tested tested-suffix-table }
 
-  pub right-forest-for-all : NeitherTwoNorNone (λ (b : Buffers). IsRightForest O x (b .first) (b .past))
+  pub right-forest-for-all : NeitherTwoNorNone (RightForestOf O x)
   right-forest-for-all =
       record {
         not-two = λ b c h k. both-buffers (right-forest-unique h k);
         not-none = tested (λ t. let f = tested-right-forest t in (record { first = f .0; past = f .1 }, f .2));
       }
 
-  pub left-forest-for-all : NeitherTwoNorNone (λ (b : Buffers). IsLeftForest O x (b .first) (b .past))
+  pub left-forest-for-all : NeitherTwoNorNone (LeftForestOf O x)
   left-forest-for-all =
       record {
         not-two = λ b c h k. both-buffers (left-forest-unique h k);
         not-none = tested (λ t. let f = tested-left-forest t in (record { first = f .0; past = f .1 }, f .2));
       }
 
-pub one-run-list : {A : Type 0} (E : DecidedEquality A) (x : List A) → ExactlyOne (IsRunList x)
-one-run-list E x = record { value = runsOf E x; holds = runsOf-holds E x; only = λ b h. run-list-unique h (runsOf-holds E x) }
+pub one-run-list {ℓ} : {A : Type ℓ} (E : DecidedEquality A) (x : List A) → ExactlyOne (IsRunList x) (runsOf E x)
+one-run-list E x = record { holds = runsOf-holds E x; only = λ b h. run-list-unique h (runsOf-holds E x) }
 
 -- Letters of any kind, with no equality decided.
-pub run-list-for-all : {A : Type 0} (x : List A) → NeitherTwoNorNone (IsRunList x)
+pub run-list-for-all {ℓ} : {A : Type ℓ} (x : List A) → NeitherTwoNorNone (IsRunList x)
 run-list-for-all x = record { not-two = λ b c h k. run-list-unique h k; not-none = run-list-irrefutable x }
 
-pub one-verdict : (a : List ℕ) → ExactlyOne (HasVerdict a)
-one-verdict a = record { value = checkArray a; holds = checkArray-holds a; only = λ v h. verdict-unique a v (checkArray a) h (checkArray-holds a) }
+pub one-verdict : (a : List ℕ) → ExactlyOne (HasVerdict a) (checkArray a)
+one-verdict a = record { holds = checkArray-holds a; only = λ v h. verdict-unique a v (checkArray a) h (checkArray-holds a) }

@@ -8,6 +8,8 @@ pub mod SuffixOrder
 pub mod NextSmaller
 pub mod Compared
 pub mod ArrayNext
+pub mod OrderedAlike
+pub mod LiftedNumbers
 pub mod FactorChain
 pub mod Tabulate
 pub mod Factorization

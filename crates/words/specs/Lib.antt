@@ -1,4 +1,5 @@
 pub mod Letters
+pub mod Decided
 pub mod Tabulate
 pub mod Equality
 pub mod Word
@@ -17,4 +18,5 @@ pub mod Permutation
 pub mod Laws
 pub mod Compute
 pub mod ExactlyOne
+pub mod Existence
 pub mod ArrayTheorems

@@ -9,12 +9,12 @@ use Rattle.words.specs.Word.{span}
 use Rattle.words.specs.Lyndon.{Lyndon}
 
 -- l is the length of the longest Lyndon word of x that starts at i (document 002, "Lyndon arrays (1)").
-pub record LongestFrom {A : Type 0} (O : Letters A) (x : List A) (i l : ℕ) : Type 0 where
+pub record LongestFrom {ℓ κ} {A : Type ℓ} (O : Letters {ℓ, κ} A) (x : List A) (i l : ℕ) : Type (ℓ ⊔ κ) where
   pub fits : i + l ≤ length x
   pub lyndon : Lyndon O (span i (i + l) x)
   pub longest : (m : ℕ) → l < m → i + m ≤ length x → ¬ Lyndon O (span i (i + m) x)
 
 -- a is the Lyndon array of x (document 01's array; document 002, "Lyndon arrays (1)").
-pub record IsLyndonArray {A : Type 0} (O : Letters A) (x : List A) (a : List ℕ) : Type 0 where
+pub record IsLyndonArray {ℓ κ} {A : Type ℓ} (O : Letters {ℓ, κ} A) (x : List A) (a : List ℕ) : Type (ℓ ⊔ κ) where
   pub size : length a ≡ length x
   pub entry : (i : ℕ) → i < length x → LongestFrom O x i (getD a i 0)

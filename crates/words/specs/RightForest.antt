@@ -9,12 +9,12 @@ use Rattle.words.specs.CutTree.{IsForest}
 
 -- The span from a to b is cut before c as u·v, v its longest proper Lyndon suffix (document 000, section 1; document 002, "Lyndon
 -- trees (1)", has v as the smallest proper suffix: Laws/StandardFactorization shows that these are one cut).
-pub record RightCut {A : Type 0} (O : Letters A) (x : List A) (a c b : ℕ) : Type 0 where
+pub record RightCut {ℓ κ} {A : Type ℓ} (O : Letters {ℓ, κ} A) (x : List A) (a c b : ℕ) : Type (ℓ ⊔ κ) where
   pub proper : a < c
   pub inside : c < b
   pub lyndon : Lyndon O (span c b x)
   pub longest : (k : ℕ) → a < k → k < c → ¬ Lyndon O (span k b x)
 
 -- FIRST and PAST are the right forest of x (document 01's right forest).
-abbrev pub IsRightForest : {A : Type 0} → Letters A → List A → List ℕ → List ℕ → Type 0
+abbrev pub IsRightForest {ℓ κ} : {A : Type ℓ} → Letters {ℓ, κ} A → List A → List ℕ → List ℕ → Type (ℓ ⊔ κ)
 IsRightForest O x first past = IsForest O (RightCut O x) x first past

@@ -7,16 +7,16 @@ use Prim.Native.Nat.{ℕ, suc, _+_, _<_, _≤_}
 use lib.ListN.{length, getElem?}
 
 -- The letters at i and at k are equal.
-abbrev pub SameLetter : {A : Type 0} → List A → ℕ → ℕ → Type 0
+abbrev pub SameLetter {ℓ} : {A : Type ℓ} → List A → ℕ → ℕ → Type ℓ
 SameLetter x i k = getElem? x i ≡ getElem? x k
 
 -- p is a period of the span from s to e: letters at distance p in it are equal.
-abbrev pub HasPeriod : {A : Type 0} → List A → ℕ → ℕ → ℕ → Type 0
+abbrev pub HasPeriod {ℓ} : {A : Type ℓ} → List A → ℕ → ℕ → ℕ → Type ℓ
 HasPeriod x s e p = (i : ℕ) → s ≤ i → i + p < e → SameLetter x i (i + p)
 
 -- The span from s to e is a run of smallest period p (document 002, "Runs (1)"; document 01: "a span whose smallest period p has 2p ≤
 -- its length, and which has no neighbour letter that continues period p").
-pub record Run {A : Type 0} (x : List A) (s e p : ℕ) : Type 0 where
+pub record Run {ℓ} {A : Type ℓ} (x : List A) (s e p : ℕ) : Type ℓ where
   pub positive : 0 < p
   pub twice : s + (p + p) ≤ e
   pub inside : e ≤ length x
@@ -40,12 +40,12 @@ abbrev pub Sorted : List Entry → Type 0
 Sorted [] = Unit {0}
 Sorted (r ∷ rs) = ((t : Entry) → List·Memᴰ t rs → Earlier r t) × Sorted rs
 
-abbrev pub IsRun : {A : Type 0} → List A → Entry → Type 0
+abbrev pub IsRun {ℓ} : {A : Type ℓ} → List A → Entry → Type ℓ
 IsRun x r = Run x (r .start) (suc (r .last)) (r .period)
 
 -- rs lists the runs of x (document 01, "The calls"): it holds an entry exactly when it is a run, by start and then by last position,
 -- none twice.
-pub record IsRunList {A : Type 0} (x : List A) (rs : List Entry) : Type 0 where
+pub record IsRunList {ℓ} {A : Type ℓ} (x : List A) (rs : List Entry) : Type ℓ where
   pub sound : (r : Entry) → List·Memᴰ r rs → IsRun x r
   pub complete : (r : Entry) → IsRun x r → List·Memᴰ r rs
   pub sorted : Sorted rs

@@ -1,9 +1,11 @@
 -- What an example comes to by computation, and that it then holds: each form that computes satisfies its definition.
 -- Assumes nothing.
-use mathlib.Core.Path.{_≡_, refl, subst}
+use mathlib.Core.Path.{_≡_, ap, subst, _∙_}
 use mathlib.Core.List.{List, [], _∷_}
 use Prim.Native.Nat.{ℕ}
-use Rattle.words.specs.Letters.{rising, orderOf, decided-rising, decided-order}
+use lib.ListN.{length}
+use Rattle.words.specs.Letters.{rising, orderOf}
+use Rattle.words.specs.Decided.{decided-rising, decided-order}
 use Rattle.words.specs.LyndonArray.{IsLyndonArray}
 use Rattle.words.specs.Factorization.{IsFactorization}
 use Rattle.words.specs.SuffixTable.{IsSuffixTable}
@@ -13,23 +15,28 @@ use Rattle.words.specs.ValidArray.{Fault, textFor}
 use Rattle.words.specs.Compute.LyndonArray.{arrayOf, arrayOf-holds}
 use Rattle.words.specs.Compute.Factorization.{factorizationOf, factorizationOf-holds}
 use Rattle.words.specs.Compute.SuffixTable.{suffixTableOf, suffixTableOf-holds}
-use Rattle.words.specs.Compute.Forest.{rightFirstOf, rightPastOf, leftFirstOf, leftPastOf, rightForestOf-holds, leftForestOf-holds}
+use Rattle.words.specs.Compute.RightForest.{rightFirstOf, rightPastOf, rightForestOf-holds}
+use Rattle.words.specs.Compute.LeftForest.{leftFirstOf, leftPastOf, leftForestOf-holds}
 use Rattle.words.specs.Compute.ValidArray.{fits, fault, HasVerdict, checkArray, checkArray-holds}
+use Rattle.words.specs.ArrayTheorems.{TextWith, passed-exactly}
+use Rattle.answer.specs.declared.Answer.{Answer}
 use Rattle.answer.specs.Faults.{reasonFor}
-use Rattle.answer.specs.Answers.{refusedFor, number}
-use Rattle.worked.specs.Example.{Example, array, factors, suffix-table, right-forest, left-forest, text, refused, Holds, AllHold}
+use Rattle.answer.specs.Answers.{refusedFor, number, value}
+use Rattle.answer.specs.AcceptedContent.{Sized}
+use Rattle.from_array.specs.Answers.{verdictAnswer, arrayChecked}
+use Rattle.from_array.specs.Theorems.{reconstruct-checked, reconstruct-accepts-exactly, written-text, right-forest-checked}
+use Rattle.worked.specs.Example.{Example, array, factors, suffix-table, right-forest, left-forest, text, refused, Says, Holds, AllHold}
 
 -- The computed value is the one that the example gives.
 abbrev pub Computed : Example → Type 0
 Computed (array o x a) = arrayOf (decided-order o) x ≡ a
 Computed (factors x s) = factorizationOf decided-rising x ≡ s
 Computed (suffix-table x t) = suffixTableOf decided-rising x ≡ t
-Computed (right-forest x f p) =
-    let s = factorizationOf decided-rising x in (rightFirstOf decided-rising x s ≡ f) × (rightPastOf decided-rising x s ≡ p)
+Computed (right-forest x f p) = (rightFirstOf decided-rising x ≡ f) × (rightPastOf decided-rising x ≡ p)
 Computed (left-forest x f p) =
     let s = factorizationOf decided-rising x in (leftFirstOf decided-rising x s ≡ f) × (leftPastOf decided-rising x s ≡ p)
-Computed (text a x) = (checkArray a ≡ fits) × (textFor a ≡ x) × (arrayOf decided-rising x ≡ a)
-Computed (refused a r p) = (f : Fault) × (checkArray a ≡ fault f p) × (number (refusedFor (reasonFor f) p) ≡ r)
+Computed (text a x) = Sized (length a) × (checkArray a ≡ fits) × (textFor a ≡ x) × (arrayOf decided-rising x ≡ a)
+Computed (refused a r p) = Sized (length a) × (f : Fault) × (checkArray a ≡ fault f p) × (number (refusedFor (reasonFor f) p) ≡ r)
 
 pub computed-holds : (e : Example) → Computed e → Holds e
 computed-holds (array o x a) h = subst (IsLyndonArray (orderOf o) x) h (arrayOf-holds (decided-order o) x)
@@ -37,20 +44,34 @@ computed-holds (factors x s) h = subst (IsFactorization rising x) h (factorizati
 computed-holds (suffix-table x t) h = subst (IsSuffixTable rising x) h (suffixTableOf-holds decided-rising x)
 computed-holds (right-forest x f p) h =
     subst (λ (q : List ℕ). IsRightForest rising x f q) (h .1)
-    (subst (λ (g : List ℕ). IsRightForest rising x g (rightPastOf decided-rising x (factorizationOf decided-rising x))) (h .0)
-    (rightForestOf-holds decided-rising x (factorizationOf-holds decided-rising x)))
+    (subst (λ (g : List ℕ). IsRightForest rising x g (rightPastOf decided-rising x)) (h .0) (rightForestOf-holds decided-rising x))
 computed-holds (left-forest x f p) h =
     subst (λ (q : List ℕ). IsLeftForest rising x f q) (h .1)
     (subst (λ (g : List ℕ). IsLeftForest rising x g (leftPastOf decided-rising x (factorizationOf decided-rising x))) (h .0)
     (leftForestOf-holds decided-rising x (factorizationOf-holds decided-rising x)))
 computed-holds (text a x) h =
+    let sized = h .0 in
+    let t : TextWith {0, 0} a = passed-exactly a .0 (h .1) in
     record {
-      valid = subst (HasVerdict a) (h .0) (checkArray-holds a);
-      is = h .1;
-      has = subst (IsLyndonArray rising x) (h .2) (arrayOf-holds decided-rising x);
+      valid = subst (HasVerdict a) (h .1) (checkArray-holds a);
+      is = h .2;
+      has = subst (IsLyndonArray rising x) (h .3) (arrayOf-holds decided-rising x);
+      accepted = λ text room. reconstruct-accepts-exactly a sized text room .1 t;
+      left = λ text room. written-text a sized text room t .0 ∙ h .2;
     }
 computed-holds (refused a r p) h =
-    record { fault = h .0; first = subst (HasVerdict a) (h .1) (checkArray-holds a); numbered = h .2; valued = refl }
+    let sized = h .0 in
+    record {
+      fault = h .1;
+      first = subst (HasVerdict a) (h .2) (checkArray-holds a);
+      reconstructed = λ text room. says (reconstruct-checked a sized text room);
+      forested = λ first past first-room past-room. says (right-forest-checked a sized first past first-room past-room);
+    }
+  where
+    says : {answer : Answer} → answer ≡ arrayChecked a → Says answer r p
+    says e =
+        let q = e ∙ ap (verdictAnswer (length a)) (h .2) in
+        record { numbered = ap number q ∙ h .3; valued = ap value q }
 
 -- Every example of a table comes out by computation.
 abbrev pub AllComputed : List Example → Type 0

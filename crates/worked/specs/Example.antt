@@ -1,8 +1,9 @@
--- What a worked example says, as a statement about the definitions.
+-- What a worked example says, as a statement about the definitions and, of arrays, about the answers of the calls.
 -- Assumes nothing.
 use mathlib.Core.Path.{_≡_}
 use mathlib.Core.List.{List, [], _∷_}
-use Prim.Native.Nat.{ℕ}
+use Prim.Native.Nat.{ℕ, _≤_}
+use lib.ListN.{length, take}
 use Rattle.words.specs.Letters.{rising, orderOf}
 use Rattle.words.specs.LyndonArray.{IsLyndonArray}
 use Rattle.words.specs.Factorization.{IsFactorization}
@@ -10,8 +11,10 @@ use Rattle.words.specs.SuffixTable.{IsSuffixTable}
 use Rattle.words.specs.RightForest.{IsRightForest}
 use Rattle.words.specs.LeftForest.{IsLeftForest}
 use Rattle.words.specs.ValidArray.{Valid, Fault, FirstFault, textFor}
-use Rattle.answer.specs.Faults.{reasonFor}
-use Rattle.answer.specs.Answers.{refusedFor, number, value}
+use Rattle.answer.specs.declared.Answer.{Answer}
+use Rattle.answer.specs.Answers.{acceptedWith, number, value}
+use Rattle.from_array.specs.Answers.{reconstructAnswer, rightForestAnswer}
+use Rattle.from_array.specs.Theorems.{textAfter}
 
 -- Letters are numbers, as all texts of the calls have them.
 pub data Example : Type 0 where
@@ -23,19 +26,28 @@ pub data Example : Type 0 where
   text : (entries text : List ℕ) → Example
   refused : (entries : List ℕ) (number position : ℕ) → Example
 
--- An array is refused with a number at a position: its first fault stands there, and the answer that refuses it for that fault has that
--- number, and that position as its value.
-pub record Refused (a : List ℕ) (r p : ℕ) : Type 0 where
+-- An answer refuses with that number and position.
+pub record Says (answer : Answer) (r p : ℕ) : Type 0 where
+  pub numbered : number answer ≡ r
+  pub valued : value answer ≡ p
+
+-- An array is refused with a number at a position: its first fault stands there, and with buffers that are long enough both calls that
+-- take an array answer with that number and position.
+pub record RefusedAt (a : List ℕ) (r p : ℕ) : Type 0 where
   pub fault : Fault
   pub first : FirstFault a fault p
-  pub numbered : number (refusedFor (reasonFor fault) p) ≡ r
-  pub valued : value (refusedFor (reasonFor fault) p) ≡ p
+  pub reconstructed : (text : List ℕ) → length a ≤ length text → Says (reconstructAnswer a (length text)) r p
+  pub forested :
+      (first past : List ℕ) → length a ≤ length first → length a ≤ length past → Says (rightForestAnswer a (length first) (length past)) r p
 
--- A text is written for an array: the array is valid, the text is the one that document 01 writes, and it has that array.
-pub record Written (a x : List ℕ) : Type 0 where
+-- A text is written for an array: the array is valid, the text is the one that document 01 writes, and it has that array; with a buffer
+-- that is long enough `reconstruct` accepts the array, and leaves the text in its first places.
+pub record Reconstructed (a x : List ℕ) : Type 0 where
   pub valid : Valid a
   pub is : textFor a ≡ x
   pub has : IsLyndonArray rising x a
+  pub accepted : (text : List ℕ) → length a ≤ length text → reconstructAnswer a (length text) ≡ acceptedWith (length a)
+  pub left : (text : List ℕ) → length a ≤ length text → take (length a) (textAfter a text) ≡ x
 
 abbrev pub Holds : Example → Type 0
 Holds (array o x a) = IsLyndonArray (orderOf o) x a
@@ -43,8 +55,8 @@ Holds (factors x s) = IsFactorization rising x s
 Holds (suffix-table x t) = IsSuffixTable rising x t
 Holds (right-forest x f p) = IsRightForest rising x f p
 Holds (left-forest x f p) = IsLeftForest rising x f p
-Holds (text a x) = Written a x
-Holds (refused a r p) = Refused a r p
+Holds (text a x) = Reconstructed a x
+Holds (refused a r p) = RefusedAt a r p
 
 -- Every example of a table holds.
 abbrev pub AllHold : List Example → Type 0

@@ -2,9 +2,14 @@
 -- Assumes nothing.
 use mathlib.Core.Path.{refl}
 use mathlib.Core.List.{List, [], _∷_}
+use Prim.Native.Nat.{ℕ}
+use lib.ListN.{drop}
+use lib.Dec.{T, leb, lit≤}
 use Rattle.words.specs.ValidArray.{crossing}
+use Rattle.answer.specs.Limits.{maxLength}
+use Rattle.answer.specs.AcceptedContent.{Sized}
 use Rattle.worked.specs.Example.{Example, array, factors, suffix-table, right-forest, left-forest, text, refused, AllHold}
-use Rattle.worked.specs.Computed.{all-computed-hold}
+use Rattle.worked.specs.Computed.{AllComputed, all-computed-hold}
 
 -- The table.
 abbrev pub table : List Example
@@ -37,6 +42,14 @@ table =
     text (3 ∷ 1 ∷ 1 ∷ []) (0 ∷ 2 ∷ 1 ∷ []) ∷
     []
 
+-- What is tested of a length holds of it.
+in-limits : (n : ℕ) → T (leb 1 n) → T (leb n maxLength) → Sized n
+in-limits n low high = record { some = lit≤ low; short = lit≤ high }
+
+-- K10, K11 and K12 come out.
+from-k10 : AllComputed (drop 10 table)
+from-k10 = ((in-limits 10 tt tt, refl, refl, refl), ((in-limits 3 tt tt, crossing, refl, refl), ((in-limits 3 tt tt, refl, refl, refl), tt)))
+
 -- Every example of the table holds.
 pub table-holds : AllHold table
-table-holds = all-computed-hold table (refl, (refl, (refl, (refl, (refl, (refl, (refl, (refl, ((refl, refl), ((refl, refl), ((refl, refl, refl), ((crossing, refl, refl), ((refl, refl, refl), tt)))))))))))))
+table-holds = all-computed-hold table (refl, (refl, (refl, (refl, (refl, (refl, (refl, (refl, ((refl, refl), ((refl, refl), from-k10))))))))))

@@ -13,7 +13,7 @@ use Rattle.words.specs.Laws.Compared.{AllCompared, suffix-compare}
 
 -- What is remembered of a factor longer than one letter that starts at c: its length stands at c, the entries inside it are final, and
 -- its last place, whose entry is known to be 1, holds a number of letters on which the factor agrees with the next one and with its last part.
-pub record Remembered {A : Type 0} (x : ℕ → A) (n : ℕ) (lam buf : ℕ → ℕ) (c : ℕ) : Type 0 where
+pub record Remembered {ℓ} {A : Type ℓ} (x : ℕ → A) (n : ℕ) (lam buf : ℕ → ℕ) (c : ℕ) : Type ℓ where
   pub inside : c < n
   pub ends-inside : c + lam c ≤ n
   pub long : 1 < lam c
@@ -31,19 +31,19 @@ pub record Remembered {A : Type 0} (x : ℕ → A) (n : ℕ) (lam buf : ℕ → 
   pub part-agree : Agree x c part (buf last)
 
 -- The buffer from c on, factor by factor.
-pub data Rows {A : Type 0} (x : ℕ → A) (n : ℕ) (lam buf : ℕ → ℕ) : ℕ → Type 0 where
+pub data Rows {ℓ} {A : Type ℓ} (x : ℕ → A) (n : ℕ) (lam buf : ℕ → ℕ) : ℕ → Type ℓ where
   finished : {c : ℕ} → c ≡ n → Rows x n lam buf c
   letter : {c : ℕ} → c < n → lam c ≡ 1 → buf c ≡ 1 → Rows x n lam buf (suc c) → Rows x n lam buf c
   word : {c : ℕ} → Remembered x n lam buf c → Rows x n lam buf (c + lam c) → Rows x n lam buf c
 
 -- The first factor of the rows at j, and what follows it.
-pub record Front {A : Type 0} (x : ℕ → A) (n : ℕ) (lam buf : ℕ → ℕ) (j : ℕ) : Type 0 where
+pub record Front {ℓ} {A : Type ℓ} (x : ℕ → A) (n : ℕ) (lam buf : ℕ → ℕ) (j : ℕ) : Type ℓ where
   pub own : buf j ≡ lam j
   pub rest : Rows x n lam buf (j + lam j)
   pub remembered : 1 < lam j → Remembered x n lam buf j
 
 -- The number s that is known of the factor at j.
-pub record Known {A : Type 0} (x : ℕ → A) (n : ℕ) (lam buf : ℕ → ℕ) (j s : ℕ) : Type 0 where
+pub record Known {ℓ} {A : Type ℓ} (x : ℕ → A) (n : ℕ) (lam buf : ℕ → ℕ) (j s : ℕ) : Type ℓ where
   pub agree : j + lam j < n → Agree x j (j + lam j) s
   pub within : j + lam j < n → j + lam j + s ≤ n
   pub short : s < lam j
@@ -51,7 +51,7 @@ pub record Known {A : Type 0} (x : ℕ → A) (n : ℕ) (lam buf : ℕ → ℕ) 
   pub part-agree : (d : ℕ) → 0 < d → d ≤ s → d + lam (j + d) ≡ lam j → ((t : ℕ) → j < t → t < j + d → ¬ Agree x j t d) → Agree x j (j + d) s
 
 -- The last part joined to the word at i, which ends at j: it starts at `part`, and the word agrees with it on g letters.
-pub record LastPart {A : Type 0} (x : ℕ → A) (lam : ℕ → ℕ) (i j g : ℕ) : Type 0 where
+pub record LastPart {ℓ} {A : Type ℓ} (x : ℕ → A) (lam : ℕ → ℕ) (i j g : ℕ) : Type ℓ where
   pub part : ℕ
   pub after : i < part
   pub before : part < j
@@ -60,13 +60,13 @@ pub record LastPart {A : Type 0} (x : ℕ → A) (lam : ℕ → ℕ) (i j g : �
   pub agree : Agree x i part g
 
 -- Every entry below j is final, and the rows go on from j.
-pub record Restoring {A : Type 0} (x : ℕ → A) (n : ℕ) (lam buf : ℕ → ℕ) (j : ℕ) : Type 0 where
+pub record Restoring {ℓ} {A : Type ℓ} (x : ℕ → A) (n : ℕ) (lam buf : ℕ → ℕ) (j : ℕ) : Type ℓ where
   pub inside : j ≤ n
   pub final : (t : ℕ) → t < j → buf t ≡ lam t
   pub rows : Rows x n lam buf j
 
 -- The word from i has been joined up to j, and agrees with what follows on k letters.
-pub record Joining {A : Type 0} (O : Letters A) (x : ℕ → A) (n : ℕ) (lam buf : ℕ → ℕ) (i j k g : ℕ) : Type 0 where
+pub record Joining {ℓ κ} {A : Type ℓ} (O : Letters {ℓ, κ} A) (x : ℕ → A) (n : ℕ) (lam buf : ℕ → ℕ) (i j k g : ℕ) : Type (ℓ ⊔ κ) where
   pub lyndon : SpanLyndon O x i j
   pub inside : j ≤ n
   pub covered : (t : ℕ) → i < t → t < j → t + lam t ≤ j
@@ -76,7 +76,7 @@ pub record Joining {A : Type 0} (O : Letters A) (x : ℕ → A) (n : ℕ) (lam b
   pub within : j < n → j + k ≤ n
   pub joined : (j ≡ suc i) ⊎ LastPart x lam i j g
 
-module _ {A : Type 0} (x : ℕ → A) (n : ℕ) (lam : ℕ → ℕ) where
+module _ {ℓ} {A : Type ℓ} (x : ℕ → A) (n : ℕ) (lam : ℕ → ℕ) where
   remembered-same : (buf buf′ : ℕ → ℕ) (c : ℕ) → ((t : ℕ) → c ≤ t → t < n → buf′ t ≡ buf t) → Remembered x n lam buf c → Remembered x n lam buf′ c
   remembered-same buf buf′ c h m =
       let e : buf′ (m .last) ≡ buf (m .last) =
@@ -118,7 +118,7 @@ module _ {A : Type 0} (x : ℕ → A) (n : ℕ) (lam : ℕ → ℕ) where
       }
   front buf j l (word m r) = record { own = m .own; rest = r; remembered = λ h. m }
 
-module _ {A : Type 0} (O : Letters A) (x : ℕ → A) (n : ℕ) (lam : ℕ → ℕ) (next : (t : ℕ) → t < n → NextSmaller O x n t (t + lam t)) where
+module _ {ℓ κ} {A : Type ℓ} (O : Letters {ℓ, κ} A) (x : ℕ → A) (n : ℕ) (lam : ℕ → ℕ) (next : (t : ℕ) → t < n → NextSmaller O x n t (t + lam t)) where
   -- Inside a Lyndon word, the word agrees with a proper suffix of it on fewer letters than that suffix has.
   pub agreement-short : (i j t k : ℕ) → SpanLyndon O x i j → i < t → t < j → Agree x i t k → t + k < j
   agreement-short i j t k w p q g = go (decLt (w .below t p q .offset) k)

@@ -11,7 +11,7 @@ use Rattle.words.specs.Laws.Position.{Agree}
 use Rattle.words.specs.Laws.SuffixOrder.{NextSmaller}
 use Rattle.words.specs.Laws.RunMarks.{ListedEntry, endBound}
 use Rattle.words.specs.Laws.EachRunOnce.{ListsDown}
-use Rattle.words.specs.Letters.{decided-order}
+use Rattle.words.specs.Decided.{decided-order}
 use Rattle.words.specs.Compute.LyndonArray.{arrayOf}
 use Rattle.answer.specs.Checks.{written}
 use Rattle.sorting.specs.Exchange.{put}

@@ -8,7 +8,8 @@ use native.Mathlib.Omega.{arith}
 use lib.Dec.{ltb}
 use lib.ListN.{length, getD, set}
 use lib.Seq.{ext-getD}
-use Rattle.words.specs.Letters.{Letters, orderOf, decided-order}
+use Rattle.words.specs.Letters.{Letters, orderOf}
+use Rattle.words.specs.Decided.{decided-order}
 use Rattle.words.specs.Laws.SpanLyndon.{letters}
 use Rattle.words.specs.Laws.SuffixOrder.{NextSmaller}
 use Rattle.words.specs.Laws.ArrayNext.{array-next}

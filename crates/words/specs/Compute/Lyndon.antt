@@ -5,23 +5,24 @@ use mathlib.Core.Logic.{_↔_}
 use mathlib.Core.Bool.{Bool, true, false}
 use mathlib.Core.List.{List, [], _∷_, _++_, nil≢cons, cons≢nil, tail-eq-of-cons-eq}
 use lib.Dec.{T}
-use Rattle.words.specs.Letters.{Letters, Decided}
+use Rattle.words.specs.Letters.{Letters}
+use Rattle.words.specs.Decided.{Decided}
 use Rattle.words.specs.Word.{Less, span}
 use Rattle.words.specs.Lyndon.{Lyndon}
 use Rattle.words.specs.Laws.Lyndon.{LyndonTest}
 use Rattle.words.specs.Compute.Word.{lessb, lessb-less, less-lessb}
 
 -- w is smaller than all non-empty suffixes of s, as a test.
-abbrev pub belowSuffixes : {A : Type 0} {O : Letters A} → Decided O → List A → List A → Bool
+abbrev pub belowSuffixes {ℓ κ} : {A : Type ℓ} {O : Letters {ℓ, κ} A} → Decided O → List A → List A → Bool
 belowSuffixes D w [] = true
 belowSuffixes D w (a ∷ s) = elim (lessb D w (a ∷ s)) [ true ↦ belowSuffixes D w s | false ↦ false ]
 
 -- w is a Lyndon word, as a test.
-abbrev pub lyndonb : {A : Type 0} {O : Letters A} → Decided O → List A → Bool
+abbrev pub lyndonb {ℓ κ} : {A : Type ℓ} {O : Letters {ℓ, κ} A} → Decided O → List A → Bool
 lyndonb D [] = false
 lyndonb D (a ∷ w) = belowSuffixes D (a ∷ w) w
 
-module _ {A : Type 0} {O : Letters A} (D : Decided O) where
+module _ {ℓ κ} {A : Type ℓ} {O : Letters {ℓ, κ} A} (D : Decided O) where
   below-suffix : (w s u v : List A) → T (belowSuffixes D w s) → s ≡ u ++ v → ¬ (v ≡ []) → Less O w v
   below-suffix w [] [] v t e d = absurd (d (cc))
   below-suffix w [] (b ∷ u) v t e d = absurd (nil≢cons e)
@@ -63,5 +64,5 @@ module _ {A : Type 0} {O : Letters A} (D : Decided O) where
   lyndonb-holds w = (lyndonb-lyndon w, lyndon-lyndonb w)
 
 -- The test as one of the spans of a text.
-abbrev pub lyndon-test : {A : Type 0} {O : Letters A} → Decided O → (x : List A) → LyndonTest O x
+abbrev pub lyndon-test {ℓ κ} : {A : Type ℓ} {O : Letters {ℓ, κ} A} → Decided O → (x : List A) → LyndonTest O x
 lyndon-test D x = record { test = λ a b. lyndonb D (span a b x); right = λ a b h. lyndonb-holds D (span a b x) }

@@ -7,7 +7,8 @@ use native.Mathlib.Omega.{arith}
 use native.Mathlib.Numerals.{add-one}
 use lib.ListN.{length}
 use lib.Dec.{T}
-use Rattle.words.specs.Letters.{Letters, Decided}
+use Rattle.words.specs.Letters.{Letters}
+use Rattle.words.specs.Decided.{Decided}
 use Rattle.words.specs.Word.{span}
 use Rattle.words.specs.LyndonArray.{LongestFrom, IsLyndonArray}
 use Rattle.words.specs.Tabulate.{tabulate}
@@ -17,14 +18,14 @@ use Rattle.words.specs.Compute.Lyndon.{lyndonb, lyndon-test}
 use Rattle.words.specs.Compute.Search.{greatestBelow, GreatestBelow, greatestBelow-holds}
 
 -- The length of the longest Lyndon word of x that starts at i.
-abbrev pub longestFrom : {A : Type 0} {O : Letters A} → Decided O → List A → ℕ → ℕ
+abbrev pub longestFrom {ℓ κ} : {A : Type ℓ} {O : Letters {ℓ, κ} A} → Decided O → List A → ℕ → ℕ
 longestFrom D x i = greatestBelow (λ l. lyndonb D (span i (i + l) x)) (suc (length x - i))
 
 -- The Lyndon array of x.
-abbrev pub arrayOf : {A : Type 0} {O : Letters A} → Decided O → List A → List ℕ
+abbrev pub arrayOf {ℓ κ} : {A : Type ℓ} {O : Letters {ℓ, κ} A} → Decided O → List A → List ℕ
 arrayOf D x = tabulate (longestFrom D x) 0 (length x)
 
-module _ {A : Type 0} {O : Letters A} {x : List A} (t : LyndonTest O x) where
+module _ {ℓ κ} {A : Type ℓ} {O : Letters {ℓ, κ} A} {x : List A} (t : LyndonTest O x) where
   -- The greatest length that passes a test for Lyndon words is that of the longest Lyndon word from i.
   pub greatest-longest : (i : ℕ) → i < length x → LongestFrom O x i (greatestBelow (λ l. t .test i (i + l)) (suc (length x - i)))
   greatest-longest i h =
@@ -45,5 +46,5 @@ module _ {A : Type 0} {O : Letters A} {x : List A} (t : LyndonTest O x) where
       record { size = length-tabulate entry 0 (length x); entry = tabulate-each (LongestFrom O x) entry (length x) greatest-longest }
 
 -- The computed array is the Lyndon array.
-pub arrayOf-holds : {A : Type 0} {O : Letters A} (D : Decided O) (x : List A) → IsLyndonArray O x (arrayOf D x)
+pub arrayOf-holds {ℓ κ} : {A : Type ℓ} {O : Letters {ℓ, κ} A} (D : Decided O) (x : List A) → IsLyndonArray O x (arrayOf D x)
 arrayOf-holds D x = greatest-array (lyndon-test D x)

@@ -27,36 +27,36 @@ listFrom f i zero = []
 listFrom f i (suc d) = f i ++ listFrom f (suc i) d
 
 -- The test of equality where a position may be past the end.
-abbrev pub equalAt : {A : Type 0} → DecidedEquality A → Option A → Option A → Bool
+abbrev pub equalAt {ℓ} : {A : Type ℓ} → DecidedEquality A → Option A → Option A → Bool
 equalAt E none none = true
 equalAt E none (some b) = false
 equalAt E (some a) none = false
 equalAt E (some a) (some b) = E .equal a b
 
 -- The test of SameLetter.
-abbrev pub sameLetter : {A : Type 0} → DecidedEquality A → List A → ℕ → ℕ → Bool
+abbrev pub sameLetter {ℓ} : {A : Type ℓ} → DecidedEquality A → List A → ℕ → ℕ → Bool
 sameLetter E x i k = equalAt E (getElem? x i) (getElem? x k)
 
 -- The test of HasPeriod.
-abbrev pub hasPeriod : {A : Type 0} → DecidedEquality A → List A → ℕ → ℕ → ℕ → Bool
+abbrev pub hasPeriod {ℓ} : {A : Type ℓ} → DecidedEquality A → List A → ℕ → ℕ → ℕ → Bool
 hasPeriod E x s e p = allFrom (λ i. sameLetter E x i (i + p)) s (e - (s + p))
 
 -- The letter before s does not continue period p.
-abbrev pub stopsLeft : {A : Type 0} → DecidedEquality A → List A → ℕ → ℕ → Bool
+abbrev pub stopsLeft {ℓ} : {A : Type ℓ} → DecidedEquality A → List A → ℕ → ℕ → Bool
 stopsLeft E x zero p = true
 stopsLeft E x (suc i) p = not (sameLetter E x i (i + p))
 
 -- The letter at e does not continue period p.
-abbrev pub stopsRight : {A : Type 0} → DecidedEquality A → List A → ℕ → ℕ → Bool
+abbrev pub stopsRight {ℓ} : {A : Type ℓ} → DecidedEquality A → List A → ℕ → ℕ → Bool
 stopsRight E x e p = leb (length x) e || not (sameLetter E x (e - p) e)
 
 -- The smallest period, if it is there and cannot be continued.
-abbrev pub periodKept : {A : Type 0} → DecidedEquality A → List A → ℕ → ℕ → Option ℕ → Option ℕ
+abbrev pub periodKept {ℓ} : {A : Type ℓ} → DecidedEquality A → List A → ℕ → ℕ → Option ℕ → Option ℕ
 periodKept E x s e none = none
 periodKept E x s e (some p) = elim (stopsLeft E x s p && stopsRight E x e p) [ true ↦ some p | false ↦ none ]
 
 -- The period of the run from s to e, if that span is one.
-abbrev pub periodOf : {A : Type 0} → DecidedEquality A → List A → ℕ → ℕ → Option ℕ
+abbrev pub periodOf {ℓ} : {A : Type ℓ} → DecidedEquality A → List A → ℕ → ℕ → Option ℕ
 periodOf E x s e = periodKept E x s e (firstFrom (hasPeriod E x s e) 1 ((e - s) / 2))
 
 -- The entry of a run with start s and last position l, if there is a period.
@@ -65,15 +65,15 @@ entryFor s l none = []
 entryFor s l (some p) = record { start = s; last = l; period = p } ∷ []
 
 -- The run from s to last position l, if there is one.
-abbrev pub entryAt : {A : Type 0} → DecidedEquality A → List A → ℕ → ℕ → List Entry
+abbrev pub entryAt {ℓ} : {A : Type ℓ} → DecidedEquality A → List A → ℕ → ℕ → List Entry
 entryAt E x s l = entryFor s l (periodOf E x s (suc l))
 
 -- The runs that start at s, by last position.
-abbrev pub runsFrom : {A : Type 0} → DecidedEquality A → List A → ℕ → List Entry
+abbrev pub runsFrom {ℓ} : {A : Type ℓ} → DecidedEquality A → List A → ℕ → List Entry
 runsFrom E x s = listFrom (entryAt E x s) s (length x - s)
 
 -- All runs of x, by start and then by last position.
-abbrev pub runsOf : {A : Type 0} → DecidedEquality A → List A → List Entry
+abbrev pub runsOf {ℓ} : {A : Type ℓ} → DecidedEquality A → List A → List Entry
 runsOf E x = listFrom (runsFrom E x) 0 (length x)
 
 -- The runs of `aaaa`, `a` and `aabaab` (document 01, "Worked by hand" and "The FASTA reader and the repeat lister"). 97 is a, 98 is b.
@@ -95,7 +95,7 @@ allFrom-holds f i (suc d) = go (f i) refl (allFrom-holds f (suc i) d)
         at t k h l (no n) = r .0 t k (omega arith) (omega arith)
     go false e r = (λ t. absurd t, λ g. rw e at (g i (omega arith) (omega arith)))
 
-pub equalAt-right : {A : Type 0} (E : DecidedEquality A) (o q : Option A) → T (equalAt E o q) ↔ (o ≡ q)
+pub equalAt-right {ℓ} : {A : Type ℓ} (E : DecidedEquality A) (o q : Option A) → T (equalAt E o q) ↔ (o ≡ q)
 equalAt-right E none none = (λ t. refl, λ e. tt)
 equalAt-right E none (some b) = (λ t. absurd t, Option·none-ne-some b)
 equalAt-right E (some a) none = (λ t. absurd t, Option·some-ne-none a)
@@ -110,11 +110,11 @@ or-holds true b = (λ t h. absurd (h tt), λ h. tt)
 or-holds false b = (λ t h. t, λ h. h (λ t. t))
 
 -- What the answer of periodOf says of the span from s to e.
-abbrev pub Found : {A : Type 0} → List A → ℕ → ℕ → Option ℕ → Type 0
+abbrev pub Found {ℓ} : {A : Type ℓ} → List A → ℕ → ℕ → Option ℕ → Type ℓ
 Found x s e none = (p : ℕ) → ¬ Run x s e p
 Found x s e (some p) = Run x s e p
 
-module _ {A : Type 0} (E : DecidedEquality A) (x : List A) where
+module _ {ℓ} {A : Type ℓ} (E : DecidedEquality A) (x : List A) where
   pub sameLetter-holds : (i k : ℕ) → T (sameLetter E x i k) ↔ SameLetter x i k
   sameLetter-holds i k = equalAt-right E (getElem? x i) (getElem? x k)
 
@@ -269,7 +269,7 @@ pub entryFor-sorted : (s l : ℕ) (o : Option ℕ) → Sorted (entryFor s l o)
 entryFor-sorted s l none = tt
 entryFor-sorted s l (some p) = (λ t m. absurd (List·Memᴰ·not-nil m), tt)
 
-module _ {A : Type 0} (E : DecidedEquality A) (x : List A) where
+module _ {ℓ} {A : Type ℓ} (E : DecidedEquality A) (x : List A) where
   -- The search finds the entry r.
   pub record Searched (r : Entry) : Type 0 where
     pub inside : r .last < length x

@@ -5,7 +5,8 @@ use mathlib.Core.List.{List}
 use Prim.Native.Nat.{ℕ, suc, _-_, _<_}
 use native.Mathlib.Omega.{arith}
 use lib.ListN.{length}
-use Rattle.words.specs.Letters.{Letters, Decided}
+use Rattle.words.specs.Letters.{Letters}
+use Rattle.words.specs.Decided.{Decided}
 use Rattle.words.specs.Word.{span}
 use Rattle.words.specs.SuffixTable.{LongestTo, IsSuffixTable}
 use Rattle.words.specs.Tabulate.{tabulate}
@@ -15,18 +16,18 @@ use Rattle.words.specs.Compute.Lyndon.{lyndonb, lyndon-test}
 use Rattle.words.specs.Compute.Search.{leastFrom, LeastFrom, leastFrom-holds, least-at-most}
 
 -- Where the longest Lyndon word of x that ends at j starts.
-abbrev pub startOfLongest : {A : Type 0} {O : Letters A} → Decided O → List A → ℕ → ℕ
+abbrev pub startOfLongest {ℓ κ} : {A : Type ℓ} {O : Letters {ℓ, κ} A} → Decided O → List A → ℕ → ℕ
 startOfLongest D x j = leastFrom (λ k. lyndonb D (span k (suc j) x)) 0 j
 
 -- The length of the longest Lyndon word of x that ends at j.
-abbrev pub longestTo : {A : Type 0} {O : Letters A} → Decided O → List A → ℕ → ℕ
+abbrev pub longestTo {ℓ κ} : {A : Type ℓ} {O : Letters {ℓ, κ} A} → Decided O → List A → ℕ → ℕ
 longestTo D x j = suc j - startOfLongest D x j
 
 -- The Lyndon suffix table of x.
-abbrev pub suffixTableOf : {A : Type 0} {O : Letters A} → Decided O → List A → List ℕ
+abbrev pub suffixTableOf {ℓ κ} : {A : Type ℓ} {O : Letters {ℓ, κ} A} → Decided O → List A → List ℕ
 suffixTableOf D x = tabulate (longestTo D x) 0 (length x)
 
-module _ {A : Type 0} {O : Letters A} {x : List A} (t : LyndonTest O x) where
+module _ {ℓ κ} {A : Type ℓ} {O : Letters {ℓ, κ} A} {x : List A} (t : LyndonTest O x) where
   -- The least start that passes a test for Lyndon words is that of the longest Lyndon word to j.
   pub least-longest : (j : ℕ) → j < length x → LongestTo O x j (suc j - leastFrom (λ k. t .test k (suc j)) 0 j)
   least-longest j h =
@@ -47,5 +48,5 @@ module _ {A : Type 0} {O : Letters A} {x : List A} (t : LyndonTest O x) where
       record { size = length-tabulate entry 0 (length x); entry = tabulate-each (LongestTo O x) entry (length x) least-longest }
 
 -- The computed table is the Lyndon suffix table.
-pub suffixTableOf-holds : {A : Type 0} {O : Letters A} (D : Decided O) (x : List A) → IsSuffixTable O x (suffixTableOf D x)
+pub suffixTableOf-holds {ℓ κ} : {A : Type ℓ} {O : Letters {ℓ, κ} A} (D : Decided O) (x : List A) → IsSuffixTable O x (suffixTableOf D x)
 suffixTableOf-holds D x = least-table (lyndon-test D x)

@@ -5,17 +5,18 @@ use mathlib.Core.Logic.{_↔_, inl, inr}
 use mathlib.Core.Bool.{Bool, true, false}
 use mathlib.Core.List.{List, [], _∷_, _++_, cons≢nil}
 use lib.Dec.{T}
-use Rattle.words.specs.Letters.{Letters, Smaller, Comparison, below, same, above, Means, Decided}
+use Rattle.words.specs.Letters.{Letters, Smaller}
+use Rattle.words.specs.Decided.{Comparison, below, same, above, Means, Decided}
 use Rattle.words.specs.Word.{Less}
 
 -- u is smaller than v, as a test.
-abbrev pub lessb : {A : Type 0} {O : Letters A} → Decided O → List A → List A → Bool
+abbrev pub lessb {ℓ κ} : {A : Type ℓ} {O : Letters {ℓ, κ} A} → Decided O → List A → List A → Bool
 lessb D [] [] = false
 lessb D [] (b ∷ v) = true
 lessb D (a ∷ u) [] = false
 lessb D (a ∷ u) (b ∷ v) = elim (D .compare a b) [ below ↦ true | same ↦ lessb D u v | above ↦ false ]
 
-module _ {A : Type 0} {O : Letters A} where
+module _ {ℓ κ} {A : Type ℓ} {O : Letters {ℓ, κ} A} where
   nil-less : (b : A) (v : List A) → Less O [] (b ∷ v)
   nil-less b v = inr (record { rest = b ∷ v; more = cons≢nil; joined = refl })
 
@@ -38,7 +39,7 @@ module _ {A : Type 0} {O : Letters A} where
       })
   cons-less e (inr h) = inr (record { rest = h .rest; more = h .more; joined = cc (h .joined) })
 
-module _ {A : Type 0} {O : Letters A} (D : Decided O) where
+module _ {ℓ κ} {A : Type ℓ} {O : Letters {ℓ, κ} A} (D : Decided O) where
   -- A letter compared with itself is the same.
   pub compare-self : (a : A) → D .compare a a ≡ same
   compare-self a = go (D .compare a a) (D .right a a)
@@ -54,7 +55,7 @@ module _ {A : Type 0} {O : Letters A} (D : Decided O) where
     where
       go : (c : Comparison) → Means O c a b → c ≡ below
       go below m = refl
-      go same m = absurd (h .0 m)
+      go same m = absurd (h .0 (m .lower))
       go above m = absurd (O .not-both a b (h .0) (h .1, m .1))
 
   -- A word that passes the test is smaller.
@@ -67,7 +68,7 @@ module _ {A : Type 0} {O : Letters A} (D : Decided O) where
       go : (c : Comparison) → Means O c a b → T (elim c [ below ↦ true | same ↦ lessb D u v | above ↦ false ])
           → (T (lessb D u v) → Less O u v) → Less O (a ∷ u) (b ∷ v)
       go below m t h = head-less u v m
-      go same m t h = cons-less m (h t)
+      go same m t h = cons-less (m .lower) (h t)
       go above m t h = absurd t
 
   lessb-strongly : (r s t : List A) (a b : A) → Smaller O a b → T (lessb D (r ++ (a ∷ s)) (r ++ (b ∷ t)))

@@ -44,12 +44,12 @@ pub starts-ends : (a : List ℕ) → Valid a → EndChain a 0 (factorStarts a)
 starts-ends a v = startsFrom-ends a v (length a) 0 (omega arith) (omega arith)
 
 -- That words never rise holds where it cannot be refuted.
-never-rising-stable : {A : Type 0} (O : Letters A) (us : List (List A)) → ¬ ¬ NeverRising O us → NeverRising O us
+never-rising-stable {ℓ κ} : {A : Type ℓ} (O : Letters {ℓ, κ} A) (us : List (List A)) → ¬ ¬ NeverRising O us → NeverRising O us
 never-rising-stable O [] h = tt
 never-rising-stable O (u ∷ []) h = tt
 never-rising-stable O (u ∷ v ∷ us) h = (λ l. h (λ r. r .0 l), never-rising-stable O (v ∷ us) (λ k. h (λ r. k (r .1))))
 
-module _ {A : Type 0} (O : Letters A) (z : A) (x : List A) (a : List ℕ) (h : IsLyndonArray O x a) where
+module _ {ℓ κ} {A : Type ℓ} (O : Letters {ℓ, κ} A) (z : A) (x : List A) (a : List ℕ) (h : IsLyndonArray O x a) where
   v : Valid a
   v = array-valid O x a h
 
@@ -87,7 +87,7 @@ module _ {A : Type 0} (O : Letters A) (z : A) (x : List A) (a : List ℕ) (h : I
       ap (λ (w : List A). span i e x ++ drop e w) t)
 
   spans-linked : LeadsToNext O z x a → (i : ℕ) (s : List ℕ) → EndChain a i s → LinkedSpans O z x i (spansAt i s)
-  spans-linked leads i [] c = c ∙ h .size
+  spans-linked leads i [] c = record { lower = c ∙ h .size }
   spans-linked leads i (j ∷ s) c =
       (endOf a i, refl, leads i (inside-text i (c .1) .0), spans-linked leads (endOf a i) s (c .2))
 
@@ -111,7 +111,7 @@ module _ {A : Type 0} (O : Letters A) (z : A) (x : List A) (a : List ℕ) (h : I
       }
 
 -- The factor starts of an array are the factorization of every text that has it.
-pub array-factorization : {A : Type 0} (O : Letters A) (x : List A) (a : List ℕ) → IsLyndonArray O x a → IsFactorization O x (factorStarts a)
+pub array-factorization {ℓ κ} : {A : Type ℓ} (O : Letters {ℓ, κ} A) (x : List A) (a : List ℕ) → IsLyndonArray O x a → IsFactorization O x (factorStarts a)
 array-factorization O [] [] h = record { factors = []; whole = refl; lyndon = tt; never-rising = tt; places = refl }
 array-factorization O [] (e ∷ a) h = absurd (omega (arith, h .size))
 array-factorization O (c ∷ x) a h = factorization-at O c (c ∷ x) a h

@@ -108,7 +108,7 @@ module _ (a : List ℕ) (v : Valid a) where
     past-of-cut : pastFor a c ≡ e
     past-of-cut = past-of-inner a c (λ z. omega (arith, first-of-cut, f .after)) ∙ f .ends
 
-module _ {A : Type 0} (O : Letters A) (x : List A) (a : List ℕ) (h : IsLyndonArray O x a) where
+module _ {ℓ κ} {A : Type ℓ} (O : Letters {ℓ, κ} A) (x : List A) (a : List ℕ) (h : IsLyndonArray O x a) where
   v : Valid a
   v = array-valid O x a h
 

@@ -13,9 +13,9 @@ use Rattle.words.specs.Laws.SuffixOrder.{NextSmaller}
 use Rattle.words.specs.Laws.NextSmaller.{next-lyndon, lyndon-before-next}
 use Rattle.words.specs.Laws.Compared.{AllCompared, longest-next}
 
-module _ {A : Type 0} (O : Letters A) (z : A) (x : List A) where
+module _ {ℓ κ} {A : Type ℓ} (O : Letters {ℓ, κ} A) (z : A) (x : List A) where
   -- Every entry of a leads to the next smaller suffix.
-  abbrev pub LeadsToNext : List ℕ → Type 0
+  abbrev pub LeadsToNext : List ℕ → Type (ℓ ⊔ κ)
   LeadsToNext a = (i : ℕ) → i < length x → NextSmaller O (letters z x) (length x) i (i + getD a i 0)
 
   pub next-longest : (i l : ℕ) → NextSmaller O (letters z x) (length x) i (i + l) → LongestFrom O x i l

@@ -12,7 +12,7 @@ use Rattle.words.specs.Laws.NextSmaller.{next-nests}
 use Rattle.words.specs.Laws.Compared.{AllCompared, all-compared-irrefutable}
 use Rattle.words.specs.Laws.ArrayNext.{array-next}
 
-module _ {A : Type 0} (O : Letters A) (z : A) (x : List A) (a : List ℕ) (h : IsLyndonArray O x a) where
+module _ {ℓ κ} {A : Type ℓ} (O : Letters {ℓ, κ} A) (z : A) (x : List A) (a : List ℕ) (h : IsLyndonArray O x a) where
   entries-in-range : (i : ℕ) → i < length a → InRange a i
   entries-in-range i l =
       let e : LongestFrom O x i (getD a i 0) = h .entry i (omega (arith, h .size)) in
@@ -40,7 +40,7 @@ module _ {A : Type 0} (O : Letters A) (z : A) (x : List A) (a : List ℕ) (h : I
       }
 
 -- An array that a text over any ordered letters has is valid.
-pub array-valid : {A : Type 0} (O : Letters A) (x : List A) (a : List ℕ) → IsLyndonArray O x a → Valid a
+pub array-valid {ℓ κ} : {A : Type ℓ} (O : Letters {ℓ, κ} A) (x : List A) (a : List ℕ) → IsLyndonArray O x a → Valid a
 array-valid O [] a h =
     record { in-range = λ i l. absurd (omega (arith, h .size)); nested = λ j l c. absurd (omega (arith, h .size)) }
 array-valid O (c ∷ x) a h = valid-at O c (c ∷ x) a h

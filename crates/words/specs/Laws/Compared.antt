@@ -9,7 +9,8 @@ use native.Mathlib.Omega.{arith}
 use native.Mathlib.Decide.{decLt, ℕ-discrete}
 use lib.ListN.{length, getD}
 use lib.Seq.{ext-getD}
-use Rattle.words.specs.Letters.{Letters, Comparison, below, same, above, Means, Decided}
+use Rattle.words.specs.Letters.{Letters}
+use Rattle.words.specs.Decided.{Comparison, below, same, above, Means, Decided}
 use Rattle.words.specs.Laws.Numbers.{below-suc}
 use Rattle.words.specs.Laws.Letters.{Compared, compared-irrefutable}
 use Rattle.words.specs.Laws.Position.{Agree, SpanLyndon}
@@ -17,14 +18,14 @@ use Rattle.words.specs.Laws.SuffixOrder.{SuffixLess, ends, parts, NextSm
 use Rattle.words.specs.Laws.NextSmaller.{empty-suffix-less, next-lyndon, lyndon-before-next}
 
 -- The letters at any two positions below n are compared.
-abbrev pub AllCompared : {A : Type 0} → Letters A → (ℕ → A) → ℕ → Type 0
+abbrev pub AllCompared {ℓ κ} : {A : Type ℓ} → Letters {ℓ, κ} A → (ℕ → A) → ℕ → Type (ℓ ⊔ κ)
 AllCompared O x n = (i j : ℕ) → i < n → j < n → Compared O (x i) (x j)
 
 -- Decided letters are compared at all positions.
-pub decided-compared : {A : Type 0} {O : Letters A} (D : Decided O) (x : ℕ → A) (n : ℕ) → AllCompared O x n
+pub decided-compared {ℓ κ} : {A : Type ℓ} {O : Letters {ℓ, κ} A} (D : Decided O) (x : ℕ → A) (n : ℕ) → AllCompared O x n
 decided-compared D x n i j p q = (D .compare (x i) (x j), D .right (x i) (x j))
 
-module _ {A : Type 0} (O : Letters A) (x : ℕ → A) (n : ℕ) (compared : AllCompared O x n) where
+module _ {ℓ κ} {A : Type ℓ} (O : Letters {ℓ, κ} A) (x : ℕ → A) (n : ℕ) (compared : AllCompared O x n) where
   suffix-compare-from : (i j fuel d : ℕ) → i + d ≤ n → j + d ≤ n → ¬ (i ≡ j) → n ≤ fuel + d → Agree x i j d →
       SuffixLess O x n i j ⊎ SuffixLess O x n j i
   suffix-compare-from i j zero d p q ne h g = absurd (ne (omega arith))
@@ -43,7 +44,7 @@ module _ {A : Type 0} (O : Letters A) (x : ℕ → A) (n : ℕ) (compared : AllC
             where
               at : Dec (k < d) → x (i + k) ≡ x (j + k)
               at (yes r) = g k r
-              at (no r) = let t : d ≡ k = omega (arith, r) in subst (λ (z : ℕ). x (i + z) ≡ x (j + z)) t m
+              at (no r) = let t : d ≡ k = omega (arith, r) in subst (λ (z : ℕ). x (i + z) ≡ x (j + z)) t (m .lower)
 
       go : Dec (i + d < n) → Dec (j + d < n) → (i + suc d ≤ n → j + suc d ≤ n → Agree x i j (suc d) → SuffixLess O x n i j ⊎ SuffixLess O x n j i) →
           SuffixLess O x n i j ⊎ SuffixLess O x n j i
@@ -101,13 +102,13 @@ module _ {A : Type 0} (O : Letters A) (x : ℕ → A) (n : ℕ) (compared : AllC
           at (no r) = let t : f ≡ e = omega (arith, r, l) in subst (λ (z : ℕ). NextSmaller O x n i z) t q
 
 -- A property that cannot be refuted at any number below m cannot be refuted at all of them together.
-pub all-irrefutable : (P : ℕ → Type 0) (m : ℕ) → ((k : ℕ) → k < m → ¬ ¬ P k) → ¬ ¬ ((k : ℕ) → k < m → P k)
+pub all-irrefutable {ℓ} : (P : ℕ → Type ℓ) (m : ℕ) → ((k : ℕ) → k < m → ¬ ¬ P k) → ¬ ¬ ((k : ℕ) → k < m → P k)
 all-irrefutable P zero h never = never (λ k l. absurd (omega arith))
 all-irrefutable P (suc m) h never =
     all-irrefutable P m (λ k l. h k (omega arith)) (λ q. h m (omega arith) (λ p. never (below-suc P m q p)))
 
 -- That all letters of a text are compared cannot be refuted.
-pub all-compared-irrefutable : {A : Type 0} (O : Letters A) (x : ℕ → A) (n : ℕ) → ¬ ¬ AllCompared O x n
+pub all-compared-irrefutable {ℓ κ} : {A : Type ℓ} (O : Letters {ℓ, κ} A) (x : ℕ → A) (n : ℕ) → ¬ ¬ AllCompared O x n
 all-compared-irrefutable O x n never =
     all-irrefutable (λ i. (j : ℕ) → j < n → Compared O (x i) (x j)) n
     (λ i l. all-irrefutable (λ j. Compared O (x i) (x j)) n (λ j m. compared-irrefutable O (x i) (x j)))

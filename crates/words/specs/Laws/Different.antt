@@ -9,11 +9,11 @@ use native.Mathlib.Decide.{ℕ-discrete}
 use lib.ListN.{length}
 
 -- No element stands twice.
-abbrev pub Different : {B : Type 0} → List B → Type 0
-Different [] = Unit {0}
+abbrev pub Different {ℓ} : {B : Type ℓ} → List B → Type ℓ
+Different [] = Unit {ℓ}
 Different (b ∷ bs) = (¬ List·Memᴰ b bs) × Different bs
 
-module _ {B : Type 0} where
+module _ {ℓ} {B : Type ℓ} where
   -- Lists of different elements with none in common, joined.
   pub different-append : (bs cs : List B) → Different bs → Different cs → ((b : B) → List·Memᴰ b bs → ¬ List·Memᴰ b cs) → Different (bs ++ cs)
   different-append [] cs h k g = k
@@ -32,7 +32,7 @@ module _ {B : Type 0} where
       different-append bs (b ∷ []) h (λ m. List·Memᴰ·not-nil m, tt) (λ c m k. n (Memᴰ·cast (sym (List·Memᴰ·eq-of-singleton k)) m))
 
   -- A list with one place of b taken away.
-  pub record Without (b : B) (cs : List B) : Type 0 where
+  pub record Without (b : B) (cs : List B) : Type ℓ where
     pub rest : List B
     pub shorter : length cs ≡ suc (length rest)
     pub others : (c : B) → List·Memᴰ c cs → (c ≡ b) ⊎ List·Memᴰ c rest
@@ -143,7 +143,7 @@ numbersBelow-holds (suc m) k l = go (numbersBelow-holds m k) (ℕ-discrete k m)
     go f (yes e) = List·Memᴰ·head e
     go f (no e) = List·Memᴰ·tail (f (omega arith))
 
-module _ {B : Type 0} (Mark : B → ℕ → Type 0) (one : (b c : B) (k : ℕ) → Mark b k → Mark c k → b ≡ c) where
+module _ {ℓ κ} {B : Type ℓ} (Mark : B → ℕ → Type κ) (one : (b c : B) (k : ℕ) → Mark b k → Mark c k → b ≡ c) where
   abbrev markList : (bs : List B) → ((b : B) → List·Memᴰ b bs → (k : ℕ) × Mark b k) → List ℕ
   markList [] f = []
   markList (b ∷ bs) f = f b (List·Memᴰ·head refl) .0 ∷ markList bs (λ c m. f c (List·Memᴰ·tail m))

@@ -18,25 +18,25 @@ use Rattle.words.specs.Laws.RunListing.{listed-once, listed-one-order}
 use Rattle.words.specs.Laws.RunMarks.{ListedEntry, listed-entry-unique, listed-is-run, RunMark, run-mark, runs-fewer}
 
 -- A position from i on lists the entry r.
-pub record ListedFrom {A : Type 0} (O : Letters A) (x : ℕ → A) (n bound i : ℕ) (r : Entry) : Type 0 where
+pub record ListedFrom {ℓ κ} {A : Type ℓ} (O : Letters {ℓ, κ} A) (x : ℕ → A) (n bound i : ℕ) (r : Entry) : Type (ℓ ⊔ κ) where
   pub place : ℕ
   pub low : i ≤ place
   pub listed : ListedEntry O x n bound place r
 
 -- rs holds what the positions from i on list, nothing else, and nothing twice.
-pub record ListsDown {A : Type 0} (O : Letters A) (x : ℕ → A) (n bound i : ℕ) (rs : List Entry) : Type 0 where
+pub record ListsDown {ℓ κ} {A : Type ℓ} (O : Letters {ℓ, κ} A) (x : ℕ → A) (n bound i : ℕ) (rs : List Entry) : Type (ℓ ⊔ κ) where
   pub sound : (r : Entry) → List·Memᴰ r rs → ListedFrom O x n bound i r
   pub complete : (r : Entry) → ListedFrom O x n bound i r → List·Memᴰ r rs
   pub different : Different rs
   pub size : length rs + i ≤ n
 
 -- rs holds every run of x, nothing else, and nothing twice.
-pub record EachRunOnce {A : Type 0} (x : List A) (rs : List Entry) : Type 0 where
+pub record EachRunOnce {ℓ} {A : Type ℓ} (x : List A) (rs : List Entry) : Type ℓ where
   pub sound : (r : Entry) → List·Memᴰ r rs → IsRun x r
   pub complete : (r : Entry) → IsRun x r → List·Memᴰ r rs
   pub different : Different rs
 
-module _ {A : Type 0} (O : Letters A) (x : ℕ → A) (n bound : ℕ) where
+module _ {ℓ κ} {A : Type ℓ} (O : Letters {ℓ, κ} A) (x : ℕ → A) (n bound : ℕ) where
   -- Before the first step nothing is listed.
   pub lists-none : ListsDown O x n bound n []
   lists-none =
@@ -102,7 +102,7 @@ module _ {A : Type 0} (O : Letters A) (x : ℕ → A) (n bound : ℕ) where
       into r (inl w) = Memᴰ·append-right rs (List·Memᴰ·head (listed-entry-unique O x n bound i r t w k))
       into r (inr w) = Memᴰ·append-left (t ∷ []) (h .complete r w)
 
-module _ {A : Type 0} (O : Letters A) (z : A) (x : List A) where
+module _ {ℓ κ} {A : Type ℓ} (O : Letters {ℓ, κ} A) (z : A) (x : List A) where
   -- What is listed under O from i on and under the reversed order from k on is different.
   pub lists-different : (i k : ℕ) (rs ts : List Entry) → ListsDown O (letters z x) (length x) (suc (length x)) i rs →
       ListsDown (reversed O) (letters z x) (length x) (length x) k ts → Different (rs ++ ts)
@@ -144,7 +144,7 @@ module _ {A : Type 0} (O : Letters A) (z : A) (x : List A) where
       go r (i, inl w) = Memᴰ·append-left ts (h .complete r (record { place = i; low = omega arith; listed = w }))
       go r (i, inr w) = Memᴰ·append-right rs (g .complete r (record { place = i; low = omega arith; listed = w }))
 
-module _ {A : Type 0} (x : List A) where
+module _ {ℓ} {A : Type ℓ} (x : List A) where
   -- Of different runs the one that is not later is earlier.
   pub runs-apart : (r t : Entry) → IsRun x r → IsRun x t → ¬ (r ≡ t) → NotLater r t → Earlier r t
   runs-apart r t h k d (inl l) = inl l

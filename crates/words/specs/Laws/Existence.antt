@@ -23,7 +23,7 @@ use Rattle.words.specs.ArrayForest.{forestFirst, forestPast}
 use Rattle.words.specs.ArrayFactors.{factorStarts}
 use Rattle.words.specs.Compute.LyndonArray.{greatest-array}
 use Rattle.words.specs.Compute.SuffixTable.{least-table}
-use Rattle.words.specs.Compute.Forest.{forestOf-holds, greatest-left-cuts}
+use Rattle.words.specs.Compute.LeftForest.{forestOf-holds, greatest-left-cuts}
 use Rattle.words.specs.Laws.Lyndon.{LyndonTest}
 use Rattle.words.specs.Laws.Position.{SpanLyndon}
 use Rattle.words.specs.Laws.SpanLyndon.{letters, lyndon-span, span-lyndon}
@@ -35,7 +35,7 @@ use Rattle.words.specs.Laws.ArrayForest.{array-forest}
 
 -- Where the letters of a text are compared, it is decided whether a span of it is a Lyndon word: one is, if the text cut off at its end has
 -- its next smaller suffix there.
-pub span-lyndon-decided : {A : Type 0} (O : Letters A) (x : ℕ → A) (n : ℕ) → AllCompared O x n → (a b : ℕ) → b ≤ n → Dec (SpanLyndon O x a b)
+pub span-lyndon-decided {ℓ κ} : {A : Type ℓ} (O : Letters {ℓ, κ} A) (x : ℕ → A) (n : ℕ) → AllCompared O x n → (a b : ℕ) → b ≤ n → Dec (SpanLyndon O x a b)
 span-lyndon-decided O x n compared a b h = within (decLt a b)
   where
     at : (e : ℕ) → NextSmaller O x b a e → Dec (e < b) → Dec (SpanLyndon O x a b)
@@ -51,15 +51,15 @@ span-lyndon-decided O x n compared a b h = within (decLt a b)
     within (no l) = no (λ w. l (w .non-empty))
 
 -- The answer of a decision.
-abbrev pub answered : {P : Type 0} → Dec P → Bool
+abbrev pub answered {ℓ} : {P : Type ℓ} → Dec P → Bool
 answered (yes p) = true
 answered (no n) = false
 
-pub answered-holds : {P : Type 0} (d : Dec P) → T (answered d) ↔ P
+pub answered-holds {ℓ} : {P : Type ℓ} (d : Dec P) → T (answered d) ↔ P
 answered-holds (yes p) = (λ t. p, λ q. tt)
 answered-holds (no n) = (λ t. absurd t, n)
 
-module _ {A : Type 0} (O : Letters A) (z : A) (x : List A) (compared : AllCompared O (letters z x) (length x)) where
+module _ {ℓ κ} {A : Type ℓ} (O : Letters {ℓ, κ} A) (z : A) (x : List A) (compared : AllCompared O (letters z x) (length x)) where
   compared-lyndon : (a b : ℕ) → Dec (b ≤ length x) → Dec (Lyndon O (span a b x) × (b ≤ length x))
   compared-lyndon a b (no l) = no (λ p. l (p .1))
   compared-lyndon a b (yes l) = go (span-lyndon-decided O (letters z x) (length x) compared a b l)
@@ -77,7 +77,7 @@ module _ {A : Type 0} (O : Letters A) (z : A) (x : List A) (compared : AllCompar
             λ a b h. let d = answered-holds (compared-lyndon a b (decLe b (length x))) in (λ t. d .0 t .0, λ w. d .1 (w, h));
       }
 
-module _ {A : Type 0} {O : Letters A} {x : List A} (t : LyndonTest O x) where
+module _ {ℓ κ} {A : Type ℓ} {O : Letters {ℓ, κ} A} {x : List A} (t : LyndonTest O x) where
   -- A text whose spans are tested has a Lyndon array.
   pub tested-array : (a : List ℕ) × IsLyndonArray O x a
   tested-array = (_, greatest-array t)
@@ -98,7 +98,8 @@ module _ {A : Type 0} {O : Letters A} {x : List A} (t : LyndonTest O x) where
   pub tested-left-forest : (first : List ℕ) × (past : List ℕ) × IsLeftForest O x first past
   tested-left-forest = (_, _, forestOf-holds (greatest-left-cuts t) (tested-factorization .1))
 
-empty-test : {A : Type 0} (O : Letters A) → LyndonTest {A = A} O []
+-- The empty text has no Lyndon word.
+pub empty-test {ℓ κ} : {A : Type ℓ} (O : Letters {ℓ, κ} A) → LyndonTest {A = A} O []
 empty-test O =
     record {
       test = λ a b. false;
@@ -106,7 +107,7 @@ empty-test O =
     }
 
 -- That the spans of a text are tested cannot be refuted.
-pub test-irrefutable : {A : Type 0} (O : Letters A) (x : List A) → ¬ ¬ LyndonTest O x
+pub test-irrefutable {ℓ κ} : {A : Type ℓ} (O : Letters {ℓ, κ} A) (x : List A) → ¬ ¬ LyndonTest O x
 test-irrefutable O [] never = never (empty-test O)
 test-irrefutable O (c ∷ x) never =
     all-compared-irrefutable O (letters c (c ∷ x)) (length (c ∷ x)) (λ compared. never (compared-test O c (c ∷ x) compared))

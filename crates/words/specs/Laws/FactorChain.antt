@@ -1,7 +1,7 @@
 -- The factors of a text start at 0 and at each next smaller suffix after it; so there is one factorization.
 -- Assumes nothing.
 use mathlib.Core.Path.{_≡_, refl, sym, ap, subst, _∙_}
-use mathlib.Core.Logic.{_⊎_, inl, inr}
+use mathlib.Core.Logic.{Lift, _⊎_, inl, inr}
 use mathlib.Core.List.{List, [], _∷_, _++_}
 use Prim.Native.Nat.{ℕ, zero, suc, _+_, _-_, _<_, _≤_}
 use native.Mathlib.Omega.{arith}
@@ -19,37 +19,37 @@ use Rattle.words.specs.Laws.NextSmaller.{empty-suffix-less, next-lyndon,
 use Rattle.words.specs.Laws.Compared.{AllCompared, all-compared-irrefutable, suffix-compare, numbers-stable}
 
 -- s holds i, the next smaller suffix after it, the next after that, and so on up to n.
-abbrev pub Chain : {A : Type 0} → Letters A → (ℕ → A) → ℕ → ℕ → List ℕ → Type 0
-Chain O x n i [] = i ≡ n
+abbrev pub Chain {ℓ κ} : {A : Type ℓ} → Letters {ℓ, κ} A → (ℕ → A) → ℕ → ℕ → List ℕ → Type (ℓ ⊔ κ)
+Chain O x n i [] = Lift {0, ℓ ⊔ κ} (i ≡ n)
 Chain O x n i (j ∷ s) = (i ≡ j) × (e : ℕ) × NextSmaller O x n i e × Chain O x n e s
 
-pub chain-unique : {A : Type 0} (O : Letters A) (x : ℕ → A) (n i : ℕ) (s t : List ℕ) → Chain O x n i s → Chain O x n i t → s ≡ t
+pub chain-unique {ℓ κ} : {A : Type ℓ} (O : Letters {ℓ, κ} A) (x : ℕ → A) (n i : ℕ) (s t : List ℕ) → Chain O x n i s → Chain O x n i t → s ≡ t
 chain-unique O x n i [] [] p q = refl
-chain-unique O x n i [] (k ∷ t) p q = absurd (omega (arith, q .2 .after, q .2 .inside))
-chain-unique O x n i (j ∷ s) [] p q = absurd (omega (arith, p .2 .after, p .2 .inside))
+chain-unique O x n i [] (k ∷ t) p q = absurd (omega (arith, p .lower, q .2 .after, q .2 .inside))
+chain-unique O x n i (j ∷ s) [] p q = absurd (omega (arith, q .lower, p .2 .after, p .2 .inside))
 chain-unique O x n i (j ∷ s) (k ∷ t) p q =
     let e : p .1 ≡ q .1 = next-unique O x n i (p .1) (q .1) (p .2) (q .2) in
     let r : s ≡ t =
     chain-unique O x n (q .1) s t (subst (λ (m : ℕ). Chain O x n m s) e (p .3)) (q .3) in
     ap (λ (m : ℕ). m ∷ s) (sym (p .0) ∙ q .0) ∙ ap (λ (w : List ℕ). k ∷ w) r
 
-pub span-take : {A : Type 0} (i m : ℕ) (x : List A) → span i (i + m) x ≡ take m (drop i x)
+pub span-take {ℓ} : {A : Type ℓ} (i m : ℕ) (x : List A) → span i (i + m) x ≡ take m (drop i x)
 span-take zero m x = ap (λ (k : ℕ). take k x) (zero-add m)
 span-take (suc i) m [] = rw suc-add (sym (take-nil m))
 span-take (suc i) m (c ∷ x) = rw suc-add (span-take i m x)
 
 -- The words are the spans between the links of the chain from i.
-abbrev pub LinkedSpans : {A : Type 0} → Letters A → A → List A → ℕ → List (List A) → Type 0
-LinkedSpans O z x i [] = i ≡ length x
+abbrev pub LinkedSpans {ℓ κ} : {A : Type ℓ} → Letters {ℓ, κ} A → A → List A → ℕ → List (List A) → Type (ℓ ⊔ κ)
+LinkedSpans O z x i [] = Lift {0, ℓ ⊔ κ} (i ≡ length x)
 LinkedSpans O z x i (u ∷ us) =
     (e : ℕ) × (u ≡ span i e x) × NextSmaller O (letters z x) (length x) i e × LinkedSpans O z x e us
 
-module _ {A : Type 0} (O : Letters A) (z : A) (x : List A) where
+module _ {ℓ κ} {A : Type ℓ} (O : Letters {ℓ, κ} A) (z : A) (x : List A) where
   span-ends : (i e : ℕ) (u : List A) → u ≡ span i e x → i < e → e ≤ length x → i + length u ≡ e
   span-ends i e u h l m = omega (arith, length-span O z x i e m, ap length h)
 
   pub linked-chain : (i : ℕ) (us : List (List A)) → LinkedSpans O z x i us → Chain O (letters z x) (length x) i (starts i us)
-  linked-chain i [] h = h
+  linked-chain i [] h = record { lower = h .lower }
   linked-chain i (u ∷ us) h =
       let e : i + length u ≡ h .0 = span-ends i (h .0) u (h .1) (h .2 .after) (h .2 .inside) in (
         refl,
@@ -59,7 +59,7 @@ module _ {A : Type 0} (O : Letters A) (z : A) (x : List A) where
       )
 
   pub chain-linked : (i : ℕ) (s : List ℕ) → Chain O (letters z x) (length x) i s → (us : List (List A)) × LinkedSpans O z x i us × (starts i us ≡ s)
-  chain-linked i [] h = ([], h, refl)
+  chain-linked i [] h = ([], record { lower = h .lower }, refl)
   chain-linked i (j ∷ s) h =
       let r = chain-linked (h .1) s (h .3) in
       let u : List A = span i (h .1) x in
@@ -90,7 +90,7 @@ module _ {A : Type 0} (O : Letters A) (z : A) (x : List A) where
       )
 
   pub linked-joined : (i : ℕ) (us : List (List A)) → LinkedSpans O z x i us → joined us ≡ drop i x
-  linked-joined i [] h = sym (ap (λ (k : ℕ). drop k x) h ∙ drop-length x)
+  linked-joined i [] h = sym (ap (λ (k : ℕ). drop k x) (h .lower) ∙ drop-length x)
   linked-joined i (u ∷ us) h =
       let e : ℕ = h .0 in
       let a : take (length x) x ≡ x = take-length x in
@@ -113,7 +113,7 @@ module _ {A : Type 0} (O : Letters A) (z : A) (x : List A) where
 
   module _ (compared : AllCompared O (letters z x) (length x)) where
     factors-linked : (i : ℕ) (us : List (List A)) → i ≤ length x → drop i x ≡ joined us → AllLyndon O us → NeverRising O us → LinkedSpans O z x i us
-    factors-linked i [] l h a r = omega (arith, length-drop i x, ap length h)
+    factors-linked i [] l h a r = record { lower = omega (arith, length-drop i x, ap length h) }
     factors-linked i (u ∷ us) l h a r =
         let e : ℕ = i + length u in
         let k : length x - i ≡ length u + length (joined us) = sym (length-drop i x) ∙ ap length h ∙ length-append u (joined us) in
@@ -129,7 +129,7 @@ module _ {A : Type 0} (O : Letters A) (z : A) (x : List A) where
             i + length u ≤ length x → SpanLyndon O (letters z x) i (i + length u) → (NeverRising O vs → LinkedSpans O z x (i + length u) vs) →
             LinkedSpans O z x i (u ∷ vs)
         last [] rest a′ r′ is b w tail =
-            let e : i + length u ≡ length x = tail tt in (
+            let e : i + length u ≡ length x = tail tt .lower in (
               i + length u,
               is,
               lyndon-next O (letters z x) (length x) i (i + length u) w b
@@ -167,13 +167,13 @@ module _ {A : Type 0} (O : Letters A) (z : A) (x : List A) where
       (λ compared. never (chain-unique O (letters z x) (length x) 0 s t (factorization-chain compared s p) (factorization-chain compared t q))))
 
 -- A factorization of the empty text has no factor.
-empty-factorization : {A : Type 0} (O : Letters A) (us : List (List A)) (i : ℕ) → joined us ≡ [] → AllLyndon O us → starts i us ≡ []
+empty-factorization {ℓ κ} : {A : Type ℓ} (O : Letters {ℓ, κ} A) (us : List (List A)) (i : ℕ) → joined us ≡ [] → AllLyndon O us → starts i us ≡ []
 empty-factorization O [] i h a = refl
 empty-factorization O ([] ∷ us) i h a = absurd (a .0 .non-empty refl)
 empty-factorization O ((c ∷ u) ∷ us) i h a = absurd (omega (arith, ap length h))
 
 -- A text has one factorization.
-pub factorization-unique : {A : Type 0} (O : Letters A) (x : List A) (s t : List ℕ) → IsFactorization O x s → IsFactorization O x t → s ≡ t
+pub factorization-unique {ℓ κ} : {A : Type ℓ} (O : Letters {ℓ, κ} A) (x : List A) (s t : List ℕ) → IsFactorization O x s → IsFactorization O x t → s ≡ t
 factorization-unique O [] s t p q =
     p .places ∙ empty-factorization O (p .factors) 0 (p .whole) (p .lyndon) ∙
     sym (q .places ∙ empty-factorization O (q .factors) 0 (q .whole) (q .lyndon))

@@ -17,16 +17,16 @@ Divides i [] n = i ≡ n
 Divides i (a ∷ s) n = (i ≡ a) × (a < getD s 0 n) × Divides (getD s 0 n) s n
 
 -- Words one after another from i on: the first of their starts is i, also where there is no word.
-first-of-starts : {A : Type 0} (i : ℕ) (us : List (List A)) → getD (starts i us) 0 (i + length (joined us)) ≡ i
+first-of-starts {ℓ} : {A : Type ℓ} (i : ℕ) (us : List (List A)) → getD (starts i us) 0 (i + length (joined us)) ≡ i
 first-of-starts i [] = omega arith
 first-of-starts i (u ∷ us) = refl
 
-lyndon-positive : {A : Type 0} (O : Letters A) (u : List A) → Lyndon O u → 0 < length u
+lyndon-positive {ℓ κ} : {A : Type ℓ} (O : Letters {ℓ, κ} A) (u : List A) → Lyndon O u → 0 < length u
 lyndon-positive O [] l = absurd (l .non-empty refl)
 lyndon-positive O (a ∷ u) l = omega arith
 
 -- The starts of Lyndon words one after another divide their span.
-pub starts-divide : {A : Type 0} (O : Letters A) (i : ℕ) (us : List (List A)) (n : ℕ) → AllLyndon O us
+pub starts-divide {ℓ κ} : {A : Type ℓ} (O : Letters {ℓ, κ} A) (i : ℕ) (us : List (List A)) (n : ℕ) → AllLyndon O us
     → n ≡ i + length (joined us) → Divides i (starts i us) n
 starts-divide O i [] n l e = omega arith
 starts-divide O i (u ∷ us) n l e =
@@ -74,7 +74,7 @@ division-holding i (c ∷ s) n d j a b = go (decLt j (getD s 0 n)) (division-hol
           ends-after = p .ends-after;
         }
 
-module _ {A : Type 0} {O : Letters A} {x : List A} {s : List ℕ} (f : IsFactorization O x s) where
+module _ {ℓ κ} {A : Type ℓ} {O : Letters {ℓ, κ} A} {x : List A} {s : List ℕ} (f : IsFactorization O x s) where
   -- The starts of the factors divide the text.
   pub factors-divide : Divides 0 s (length x)
   factors-divide =

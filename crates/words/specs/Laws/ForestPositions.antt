@@ -16,19 +16,19 @@ use Rattle.words.specs.Laws.Factorization.{Divides, division-reaches, fa
 use Rattle.words.specs.Laws.Unique.{cuts-are}
 
 -- A tree for each of the factors that start at s, the last of which ends at n.
-abbrev pub Trees : (ℕ → ℕ → ℕ → Type 0) → List ℕ → List ℕ → List ℕ → ℕ → Type 0
+abbrev pub Trees {ρ} : (ℕ → ℕ → ℕ → Type ρ) → List ℕ → List ℕ → List ℕ → ℕ → Type ρ
 Trees Rule first past s n = (k : ℕ) → k < length s → Tree Rule first past (getD s k 0) (getD s (suc k) n)
 
 -- The positions that the trees give FIRST and PAST, from left to right: the start of each factor, and then the cuts of its tree.
-abbrev pub given : {Rule : ℕ → ℕ → ℕ → Type 0} {first past : List ℕ} (s : List ℕ) (n : ℕ) → Trees Rule first past s n → List ℕ
+abbrev pub given {ρ} : {Rule : ℕ → ℕ → ℕ → Type ρ} {first past : List ℕ} (s : List ℕ) (n : ℕ) → Trees Rule first past s n → List ℕ
 given [] n f = []
 given (a ∷ s) n f = a ∷ (cuts (f 0 (omega arith) .tree) ++ given s n (λ k h. f (suc k) (omega arith)))
 
 -- The positions that a forest gives FIRST and PAST.
-abbrev pub positions : {A : Type 0} {O : Letters A} {Rule : ℕ → ℕ → ℕ → Type 0} {x : List A} {first past : List ℕ} → IsForest O Rule x first past → List ℕ
+abbrev pub positions {ℓ κ ρ} : {A : Type ℓ} {O : Letters {ℓ, κ} A} {Rule : ℕ → ℕ → ℕ → Type ρ} {x : List A} {first past : List ℕ} → IsForest O Rule x first past → List ℕ
 positions {x = x} f = given (f .factor-starts) (length x) (f .factor)
 
-module _ {Rule : ℕ → ℕ → ℕ → Type 0} (inside : (a c b : ℕ) → Rule a c b → (a < c) × (c < b)) {first past : List ℕ} where
+module _ {ρ} {Rule : ℕ → ℕ → ℕ → Type ρ} (inside : (a c b : ℕ) → Rule a c b → (a < c) × (c < b)) {first past : List ℕ} where
   -- Trees over parts that divide the span from i to n are given each of its positions.
   given-are : (i : ℕ) (s : List ℕ) (n : ℕ) → Divides i s n → (f : Trees Rule first past s n) → given s n f ≡ tabulate (λ j. j) i (n - i)
   given-are i [] n d f =
@@ -49,9 +49,9 @@ module _ {Rule : ℕ → ℕ → ℕ → Type 0} (inside : (a c b : ℕ) → Rul
         ← c,
       )
 
-module _ {A : Type 0} {O : Letters A} {x : List A} {first past : List ℕ} where
+module _ {ℓ κ} {A : Type ℓ} {O : Letters {ℓ, κ} A} {x : List A} {first past : List ℕ} where
   -- A forest under a rule that cuts inside a span.
-  pub forest-positions : {Rule : ℕ → ℕ → ℕ → Type 0} → ((a c b : ℕ) → Rule a c b → (a < c) × (c < b)) → (f : IsForest O Rule x first past)
+  pub forest-positions {ρ} : {Rule : ℕ → ℕ → ℕ → Type ρ} → ((a c b : ℕ) → Rule a c b → (a < c) × (c < b)) → (f : IsForest O Rule x first past)
       → positions f ≡ tabulate (λ j. j) 0 (length x)
   forest-positions inside f =
       let z : length x - 0 ≡ length x = omega arith in

@@ -10,8 +10,8 @@ use Rattle.words.specs.LeftForest.{IsLeftForest}
 use Rattle.words.specs.Laws.Unique.{forest-unique, right-cut-unique, left-cut-unique}
 use Rattle.words.specs.Laws.FactorChain.{factorization-unique}
 
-module _ {A : Type 0} {O : Letters A} {x : List A} {first past first′ past′ : List ℕ} where
-  one-forest : {Rule : ℕ → ℕ → ℕ → Type 0} → ((a c e b : ℕ) → Rule a c b → Rule a e b → c ≡ e) → IsForest O Rule x first past →
+module _ {ℓ κ} {A : Type ℓ} {O : Letters {ℓ, κ} A} {x : List A} {first past first′ past′ : List ℕ} where
+  one-forest {ρ} : {Rule : ℕ → ℕ → ℕ → Type ρ} → ((a c e b : ℕ) → Rule a c b → Rule a e b → c ≡ e) → IsForest O Rule x first past →
       IsForest O Rule x first′ past′ → (first ≡ first′) × (past ≡ past′)
   one-forest one f g =
       forest-unique one f g (factorization-unique O x (f .factor-starts) (g .factor-starts) (f .factorization) (g .factorization))

@@ -7,11 +7,12 @@ use Prim.Native.Nat.{ℕ, zero, suc, _+_, _-_, _<_, _≤_}
 use native.Mathlib.Omega.{arith}
 use native.Mathlib.Decide.{decLt}
 use lib.ListN.{length, getD}
-use Rattle.words.specs.Letters.{Letters, Decided}
+use Rattle.words.specs.Letters.{Letters}
+use Rattle.words.specs.Decided.{Decided}
 use Rattle.words.specs.CutTree.{CutTree, letter, cut, Recorded, Tree}
 use Rattle.words.specs.LeftForest.{LeftCut, IsLeftForest}
 use Rattle.words.specs.Compute.Factorization.{factorizationOf, factorizationOf-holds}
-use Rattle.words.specs.Compute.Forest.{leftCutAt, greatest-left-cuts}
+use Rattle.words.specs.Compute.LeftForest.{leftCutAt, greatest-left-cuts}
 use Rattle.words.specs.Compute.Lyndon.{lyndon-test}
 use Rattle.words.specs.Laws.Position.{SpanLyndon}
 use Rattle.words.specs.Laws.SpanLyndon.{letters, lyndon-span, span-lyndon}
@@ -57,7 +58,7 @@ record NodeCut (start : ℕ → ℕ) (n a c b : ℕ) : Type 0 where
   left : Node start n a c
   right : Node start n c b
 
-module _ {A : Type 0} (O : Letters A) (x : ℕ → A) (n : ℕ) (start : ℕ → ℕ) (longest : (t : ℕ) → t < n → LongestEnding O x (start t) (suc t)) where
+module _ {ℓ κ} {A : Type ℓ} (O : Letters {ℓ, κ} A) (x : ℕ → A) (n : ℕ) (start : ℕ → ℕ) (longest : (t : ℕ) → t < n → LongestEnding O x (start t) (suc t)) where
   -- The longest Lyndon words are nested.
   pub longest-nested : Nested start n
   longest-nested i t l p q =
@@ -139,7 +140,7 @@ pub record LeftRecords (start : ℕ → ℕ) (n : ℕ) (first past : List ℕ) :
   pub first-own : (j : ℕ) → j < n → Uncrossed start n j → getD first j 0 ≡ j
   pub past-own : (j : ℕ) → j < n → Uncrossed start n j → getD past j 0 ≡ j
 
-module _ {A : Type 0} {O : Letters A} (D : Decided O) (z : A) (x : List A) (start : ℕ → ℕ)
+module _ {ℓ κ} {A : Type ℓ} {O : Letters {ℓ, κ} A} (D : Decided O) (z : A) (x : List A) (start : ℕ → ℕ)
     (longest : (t : ℕ) → t < length x → LongestEnding O (letters z x) (start t) (suc t)) (first past : List ℕ)
     (records : LeftRecords start (length x) first past) where
   node-tree : (fuel a b : ℕ) → b ≤ a + fuel → Node start (length x) a b → (t : CutTree (LeftCut O x) a b) × Recorded first past t

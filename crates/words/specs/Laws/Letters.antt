@@ -1,9 +1,10 @@
 -- The strict order of letters: irreflexive by its definition, asymmetric and transitive; comparing two letters cannot be refuted.
 -- Assumes nothing.
 use mathlib.Core.Path.{_≡_, sym, subst}
-use Rattle.words.specs.Letters.{Letters, Smaller, Comparison, below, same, above, Means}
+use Rattle.words.specs.Letters.{Letters, Smaller}
+use Rattle.words.specs.Decided.{Comparison, below, same, above, Means}
 
-module _ {A : Type 0} (O : Letters A) where
+module _ {ℓ κ} {A : Type ℓ} (O : Letters {ℓ, κ} A) where
   pub smaller-asym : (a b : A) → Smaller O a b → ¬ Smaller O b a
   smaller-asym a b h k = O .not-both a b (h .0) (h .1, k .1)
 
@@ -12,11 +13,11 @@ module _ {A : Type 0} (O : Letters A) where
       (λ e. smaller-asym a b h (subst (λ (z : A). Smaller O b z) (sym e) k), O .chain a b c (h .1) (k .1))
 
   -- Two letters are compared: an answer and what it means.
-  abbrev pub Compared : A → A → Type 0
+  abbrev pub Compared : A → A → Type (ℓ ⊔ κ)
   Compared a b = (c : Comparison) × Means O c a b
 
   -- That two letters can be compared is not refutable.
   pub compared-irrefutable : (a b : A) → ¬ ¬ Compared a b
   compared-irrefutable a b never =
-      let d : ¬ (a ≡ b) = λ e. never (same, e) in
+      let d : ¬ (a ≡ b) = λ e. never (same, record { lower = e }) in
       O .not-neither a b d (λ h. never (below, (d, h)), λ h. never (above, (λ e. d (sym e), h)))

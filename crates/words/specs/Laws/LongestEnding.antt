@@ -15,11 +15,11 @@ use Rattle.words.specs.Laws.LowestSuffix.{Lowest, lowest-uncrossed}
 use Rattle.words.specs.Laws.Repetition.{Repetition, lyndon-copy, first-copy-left}
 
 -- The longest Lyndon word of which e is the end starts at s.
-pub record LongestEnding {A : Type 0} (O : Letters A) (x : ℕ → A) (s e : ℕ) : Type 0 where
+pub record LongestEnding {ℓ κ} {A : Type ℓ} (O : Letters {ℓ, κ} A) (x : ℕ → A) (s e : ℕ) : Type (ℓ ⊔ κ) where
   pub lyndon : SpanLyndon O x s e
   pub longest : (k : ℕ) → k < s → ¬ SpanLyndon O x k e
 
-module _ {A : Type 0} (O : Letters A) (x : ℕ → A) where
+module _ {ℓ κ} {A : Type ℓ} (O : Letters {ℓ, κ} A) (x : ℕ → A) where
   -- Overlapping Lyndon words make one Lyndon word.
   pub lyndon-overlap : (a b c d : ℕ) → SpanLyndon O x a c → SpanLyndon O x b d → a < b → b < c → c ≤ d → SpanLyndon O x a d
   lyndon-overlap a b c d u v p q r = record { non-empty = omega arith; below = λ k i j. go k i j (decLt k c) }
@@ -80,7 +80,7 @@ module _ {A : Type 0} (O : Letters A) (x : ℕ → A) where
             sym (r .period (o + t) (omega arith) (omega (arith, v .non-empty)) ∙ ap x u))
             v)
 
-module _ {A : Type 0} (O : Letters A) (z : A) (x : List A) where
+module _ {ℓ κ} {A : Type ℓ} (O : Letters {ℓ, κ} A) (z : A) (x : List A) where
   -- The definition on words gives the form by positions.
   pub longest-ending : (j l : ℕ) → j < length x → (w : LongestTo O x j l) → LongestEnding O (letters z x) (w .start) (suc j)
   longest-ending j l h w =

@@ -12,15 +12,15 @@ use Rattle.words.specs.Laws.SuffixOrder.{SuffixLess, NextSmaller, suffix
 use Rattle.words.specs.Laws.FactorChain.{Chain}
 
 -- The suffix at h is smaller than every suffix before it.
-abbrev pub Lowest : {A : Type 0} → Letters A → (ℕ → A) → ℕ → ℕ → Type 0
+abbrev pub Lowest {ℓ κ} : {A : Type ℓ} → Letters {ℓ, κ} A → (ℕ → A) → ℕ → ℕ → Type (ℓ ⊔ κ)
 Lowest O x n h = (k : ℕ) → k < h → SuffixLess O x n h k
 
 -- A factor from a to b: it ends at the next smaller suffix, and no suffix before it is smaller.
-pub record FactorSpan {A : Type 0} (O : Letters A) (x : ℕ → A) (n a b : ℕ) : Type 0 where
+pub record FactorSpan {ℓ κ} {A : Type ℓ} (O : Letters {ℓ, κ} A) (x : ℕ → A) (n a b : ℕ) : Type (ℓ ⊔ κ) where
   pub lowest : Lowest O x n a
   pub next : NextSmaller O x n a b
 
-module _ {A : Type 0} (O : Letters A) (x : ℕ → A) (n : ℕ) where
+module _ {ℓ κ} {A : Type ℓ} (O : Letters {ℓ, κ} A) (x : ℕ → A) (n : ℕ) where
   pub lowest-first : Lowest O x n 0
   lowest-first k l = absurd (omega arith)
 
@@ -39,7 +39,7 @@ module _ {A : Type 0} (O : Letters A) (x : ℕ → A) (n : ℕ) where
       suffix-asym O x n k h (below-suffix O x n k h e (omega arith) r (l .below h p q)) (w k p)
 
   chain-first : (e : ℕ) (s : List ℕ) → Chain O x n e s → e ≡ getD s 0 n
-  chain-first e [] c = c
+  chain-first e [] c = c .lower
   chain-first e (j ∷ s) c = c .0
 
   -- Each link of the chain from a lowest suffix is a factor.

@@ -13,7 +13,7 @@ use Rattle.words.specs.Word.{Less, span}
 use Rattle.words.specs.Lyndon.{Lyndon}
 
 -- One letter is a Lyndon word (document 01, "The words used").
-pub letter-lyndon : {A : Type 0} (O : Letters A) (a : A) → Lyndon O (a ∷ [])
+pub letter-lyndon {ℓ κ} : {A : Type ℓ} (O : Letters {ℓ, κ} A) (a : A) → Lyndon O (a ∷ [])
 letter-lyndon {A} O a = record { non-empty = cons≢nil; smaller = smaller }
   where
     smaller : (u v : List A) → a ∷ [] ≡ u ++ v → ¬ (u ≡ []) → ¬ (v ≡ []) → Less O (a ∷ []) v
@@ -22,16 +22,16 @@ letter-lyndon {A} O a = record { non-empty = cons≢nil; smaller = smaller }
     smaller (b ∷ u) (k ∷ v) e c d = absurd (omega (arith, ap length e, length-append u (k ∷ v)))
 
 -- One letter of a text is a Lyndon word.
-pub letter-span-lyndon : {A : Type 0} (O : Letters A) (x : List A) (i : ℕ) → i < length x → Lyndon O (span i (suc i) x)
+pub letter-span-lyndon {ℓ κ} : {A : Type ℓ} (O : Letters {ℓ, κ} A) (x : List A) (i : ℕ) → i < length x → Lyndon O (span i (suc i) x)
 letter-span-lyndon O [] i h = absurd (omega arith)
 letter-span-lyndon O (a ∷ x) zero h = letter-lyndon O a
 letter-span-lyndon O (a ∷ x) (suc i) h = letter-span-lyndon O x i (omega arith)
 
 -- A test of the spans of x that passes exactly at Lyndon words.
-pub record LyndonTest {A : Type 0} (O : Letters A) (x : List A) : Type 0 where
+pub record LyndonTest {ℓ κ} {A : Type ℓ} (O : Letters {ℓ, κ} A) (x : List A) : Type (ℓ ⊔ κ) where
   pub test : ℕ → ℕ → Bool
   pub right : (a b : ℕ) → b ≤ length x → T (test a b) ↔ Lyndon O (span a b x)
 
 -- The test passes at one letter.
-pub test-letter : {A : Type 0} {O : Letters A} {x : List A} (t : LyndonTest O x) (i : ℕ) → i < length x → T (t .test i (suc i))
+pub test-letter {ℓ κ} : {A : Type ℓ} {O : Letters {ℓ, κ} A} {x : List A} (t : LyndonTest O x) (i : ℕ) → i < length x → T (t .test i (suc i))
 test-letter {O = O} {x = x} t i h = t .right i (suc i) h .1 (letter-span-lyndon O x i h)

@@ -4,12 +4,13 @@ use mathlib.Core.Path.{_≡_, sym, ap, subst, _∙_}
 use Prim.Native.Nat.{ℕ, _+_, _-_, _<_, _≤_}
 use native.Mathlib.Omega.{arith}
 use native.Mathlib.Decide.{decLt, ℕ-discrete}
-use Rattle.words.specs.Letters.{Letters, Smaller, below}
+use Rattle.words.specs.Letters.{Letters, Smaller}
+use Rattle.words.specs.Decided.{below}
 use Rattle.words.specs.Laws.Letters.{smaller-trans}
 use Rattle.words.specs.Laws.Position.{Agree, BelowFrom, BelowWithin, SpanLyndon, SpanLess, differs, shorter}
 use Rattle.words.specs.Laws.SuffixOrder.{SuffixLess, ends, parts, NextSmaller, earlier-difference, agree-less, agree-join, suffix-irrefl, suffix-trans, suffix-asym, below-suffix, suffix-cancel, suffix-prepend}
 
-module _ {A : Type 0} (O : Letters A) (x : ℕ → A) (n : ℕ) where
+module _ {ℓ κ} {A : Type ℓ} (O : Letters {ℓ, κ} A) (x : ℕ → A) (n : ℕ) where
   -- The empty suffix is the smallest one.
   pub empty-suffix-less : (i : ℕ) → i < n → SuffixLess O x n n i
   empty-suffix-less i l = ends 0 (omega arith) (omega arith) (λ k h. absurd (omega arith))

@@ -6,14 +6,14 @@ use native.Mathlib.Omega.{arith}
 use native.Mathlib.Decide.{decLt}
 
 -- At most one number is the least at which P holds.
-pub least-unique : (P : ℕ → Type 0) {i j : ℕ} → P i → ((k : ℕ) → k < i → ¬ P k) → P j → ((k : ℕ) → k < j → ¬ P k) → i ≡ j
+pub least-unique {ℓ} : (P : ℕ → Type ℓ) {i j : ℕ} → P i → ((k : ℕ) → k < i → ¬ P k) → P j → ((k : ℕ) → k < j → ¬ P k) → i ≡ j
 least-unique P {i} {j} p below-i q below-j =
     let low : ¬ (i < j) = λ l. below-j i l p in
     let high : ¬ (j < i) = λ l. below-i j l q in
     omega arith
 
 -- What holds below i, and at i, holds below i + 1.
-pub below-suc : (P : ℕ → Type 0) (i : ℕ) → ((k : ℕ) → k < i → P k) → P i → (k : ℕ) → k < suc i → P k
+pub below-suc {ℓ} : (P : ℕ → Type ℓ) (i : ℕ) → ((k : ℕ) → k < i → P k) → P i → (k : ℕ) → k < suc i → P k
 below-suc P i below at k h = go (decLt k i)
   where
     go : Dec (k < i) → P k

@@ -10,11 +10,11 @@ use Rattle.words.specs.Runs.{SameLetter, HasPeriod, Run}
 use Rattle.words.specs.Laws.SpanLyndon.{letters}
 
 -- p is a period of the span from s to e, by positions.
-abbrev pub SpanPeriod : {A : Type 0} → (ℕ → A) → ℕ → ℕ → ℕ → Type 0
+abbrev pub SpanPeriod {ℓ} : {A : Type ℓ} → (ℕ → A) → ℕ → ℕ → ℕ → Type ℓ
 SpanPeriod x s e p = (t : ℕ) → s ≤ t → t + p < e → x t ≡ x (t + p)
 
 -- The span from s to e is a run of smallest period p in a text of n letters, by positions.
-pub record SpanRun {A : Type 0} (x : ℕ → A) (n s e p : ℕ) : Type 0 where
+pub record SpanRun {ℓ} {A : Type ℓ} (x : ℕ → A) (n s e p : ℕ) : Type ℓ where
   pub positive : 0 < p
   pub twice : s + (p + p) ≤ e
   pub inside : e ≤ n
@@ -23,12 +23,12 @@ pub record SpanRun {A : Type 0} (x : ℕ → A) (n s e p : ℕ) : Type 0 where
   pub no-left : (t : ℕ) → s ≡ suc t → ¬ (x t ≡ x (t + p))
   pub no-right : (t : ℕ) → e ≡ t + p → e < n → ¬ (x t ≡ x e)
 
-pub getElem?-letter : {A : Type 0} (z : A) (x : List A) (i : ℕ) → i < length x → getElem? x i ≡ some (letters z x i)
+pub getElem?-letter {ℓ} : {A : Type ℓ} (z : A) (x : List A) (i : ℕ) → i < length x → getElem? x i ≡ some (letters z x i)
 getElem?-letter z [] i h = absurd (omega arith)
 getElem?-letter z (a ∷ x) zero h = refl
 getElem?-letter z (a ∷ x) (suc i) h = getElem?-letter z x i (omega arith)
 
-module _ {A : Type 0} (z : A) (x : List A) where
+module _ {ℓ} {A : Type ℓ} (z : A) (x : List A) where
   pub same-letters : (i k : ℕ) → i < length x → k < length x → SameLetter x i k → letters z x i ≡ letters z x k
   same-letters i k h l e =
       Option·some-injective (letters z x i) (letters z x k) (sym (getElem?-letter z x i h) ∙ e ∙ getElem?-letter z x k l)

@@ -12,17 +12,17 @@ use Rattle.words.specs.Laws.SuffixOrder.{SuffixLess, ends, parts, NextSm
 use Rattle.words.specs.Laws.NextSmaller.{lyndon-next}
 
 -- The span from h to e is the Lyndon word from h to h + p, repeated: letters p apart are the same. The last copy may be cut short.
-pub record Repetition {A : Type 0} (O : Letters A) (x : ℕ → A) (h p e : ℕ) : Type 0 where
+pub record Repetition {ℓ κ} {A : Type ℓ} (O : Letters {ℓ, κ} A) (x : ℕ → A) (h p e : ℕ) : Type (ℓ ⊔ κ) where
   pub lyndon : SpanLyndon O x h (h + p)
   pub whole : h + p ≤ e
   pub period : (t : ℕ) → h ≤ t → t + p < e → x t ≡ x (t + p)
 
 -- What has period p up to e cannot be continued past e as a repetition or a longer Lyndon word: the text of n letters ends at e, or the
 -- letter at e is smaller than the one p places before it.
-abbrev pub Stops : {A : Type 0} → Letters A → (ℕ → A) → ℕ → ℕ → ℕ → Type 0
+abbrev pub Stops {ℓ κ} : {A : Type ℓ} → Letters {ℓ, κ} A → (ℕ → A) → ℕ → ℕ → ℕ → Type (ℓ ⊔ κ)
 Stops O x n p e = (e ≡ n) ⊎ ((i : ℕ) × (i + p ≡ e) × (e < n) × Smaller O (x e) (x i))
 
-module _ {A : Type 0} (O : Letters A) (x : ℕ → A) where
+module _ {ℓ κ} {A : Type ℓ} (O : Letters {ℓ, κ} A) (x : ℕ → A) where
   -- One letter is a Lyndon word.
   pub letter-lyndon : (a : ℕ) → SpanLyndon O x a (suc a)
   letter-lyndon a = record { non-empty = omega arith; below = λ k p q. absurd (omega arith) }

@@ -23,9 +23,9 @@ use Rattle.words.specs.Laws.Periods.{same-letters, letters-same}
 use Rattle.words.specs.Laws.RunRenaming.{SameEqualities, same-equalities-sym, run-list-carried}
 use Rattle.words.specs.Laws.Existence.{answered, answered-holds}
 
-module _ {A : Type 0} (x : List A) (decided : (i j : ℕ) → i < length x → j < length x → Dec (SameLetter x i j)) where
+module _ {ℓ} {A : Type ℓ} (x : List A) (decided : (i j : ℕ) → i < length x → j < length x → Dec (SameLetter x i j)) where
   -- Positions of the text with one letter.
-  abbrev SamePlaces : ℕ → ℕ → Type 0
+  abbrev SamePlaces : ℕ → ℕ → Type ℓ
   SamePlaces i j = (i < length x) × (j < length x) × SameLetter x i j
 
   same-places : (i j : ℕ) → Dec (i < length x) → Dec (j < length x) → Dec (SamePlaces i j)
@@ -100,7 +100,7 @@ module _ {A : Type 0} (x : List A) (decided : (i j : ℕ) → i < length x → j
       (runsOf decided-number-equality names, run-list-carried (same-equalities-sym names-same) (runsOf-holds decided-number-equality names))
 
 -- That a text has a run list cannot be refuted.
-pub run-list-irrefutable : {A : Type 0} (x : List A) → ¬ ¬ ((rs : List Entry) × IsRunList x rs)
+pub run-list-irrefutable {ℓ} : {A : Type ℓ} (x : List A) → ¬ ¬ ((rs : List Entry) × IsRunList x rs)
 run-list-irrefutable x never =
     all-irrefutable (λ i. (j : ℕ) → j < length x → Dec (SameLetter x i j)) (length x)
     (λ i h. all-irrefutable (λ j. Dec (SameLetter x i j)) (length x) (λ j l undecided. undecided (no (λ e. undecided (yes e)))))

@@ -5,7 +5,8 @@ use mathlib.Core.Logic.{_⊎_, inl, inr}
 use Prim.Native.Nat.{ℕ, suc, _+_, _-_, _<_, _≤_}
 use native.Mathlib.Omega.{arith}
 use native.Mathlib.Decide.{decLt, ℕ-discrete}
-use Rattle.words.specs.Letters.{Letters, Smaller, reversed, Comparison, below, same, above, Means, turned, turned-means}
+use Rattle.words.specs.Letters.{Letters, Smaller, reversed}
+use Rattle.words.specs.Decided.{Comparison, below, same, above, Means, turned, turned-means}
 use Rattle.words.specs.Laws.Position.{Agree, BelowWithin}
 use Rattle.words.specs.Laws.SuffixOrder.{SuffixLess, ends, parts, NextSmaller, suffix-cancel, agree-sym}
 use Rattle.words.specs.Laws.NextSmaller.{next-lyndon, next-unique, next-nests, lyndon-next}
@@ -14,7 +15,7 @@ use Rattle.words.specs.Laws.Periods.{SpanPeriod, SpanRun}
 use Rattle.words.specs.Laws.RunRoots.{lyndon-carried, LastRoot, last-root}
 
 -- How far period p goes around i: from s to e, and no letter further, letters at distance p are equal.
-pub record Extent {A : Type 0} (x : ℕ → A) (n i s e p : ℕ) : Type 0 where
+pub record Extent {ℓ} {A : Type ℓ} (x : ℕ → A) (n i s e p : ℕ) : Type ℓ where
   pub low : s ≤ i
   pub high : i + p ≤ e
   pub inside : e ≤ n
@@ -25,7 +26,7 @@ pub record Extent {A : Type 0} (x : ℕ → A) (n i s e p : ℕ) : Type 0 where
 
 -- Position i lists the span from s to e with period p: its next smaller suffix is p letters on, the span is as far as period p goes
 -- around it and holds two periods, i is its last root, and its end is below bound.
-pub record ListedAt {A : Type 0} (O : Letters A) (x : ℕ → A) (n bound i s e p : ℕ) : Type 0 where
+pub record ListedAt {ℓ κ} {A : Type ℓ} (O : Letters {ℓ, κ} A) (x : ℕ → A) (n bound i s e p : ℕ) : Type (ℓ ⊔ κ) where
   pub next : NextSmaller O x n i (i + p)
   pub extent : Extent x n i s e p
   pub twice : s + (p + p) ≤ e
@@ -33,11 +34,11 @@ pub record ListedAt {A : Type 0} (O : Letters A) (x : ℕ → A) (n bound i s e 
   pub early : e < bound
 
 -- What follows the end e of a span of period p is smaller than what continues the period, or the text ends there.
-pub data Falls {A : Type 0} (O : Letters A) (x : ℕ → A) (n e p : ℕ) : Type 0 where
+pub data Falls {ℓ κ} {A : Type ℓ} (O : Letters {ℓ, κ} A) (x : ℕ → A) (n e p : ℕ) : Type (ℓ ⊔ κ) where
   at-end : e ≡ n → Falls O x n e p
   by-letter : e < n → (t : ℕ) → e ≡ t + p → Smaller O (x e) (x t) → Falls O x n e p
 
-module _ {A : Type 0} (x : ℕ → A) (n : ℕ) where
+module _ {ℓ} {A : Type ℓ} (x : ℕ → A) (n : ℕ) where
   -- The extent, from the agreement k of the suffixes at i and i + p, and from the equal letters before them down to s.
   pub extent-from : (i p k s : ℕ) → i + p + k ≤ n → Agree x i (i + p) k → (i + p + k < n → ¬ (x (i + k) ≡ x (i + p + k))) → s ≤ i →
       ((t : ℕ) → s ≤ t → t < i → x t ≡ x (t + p)) → ((t : ℕ) → s ≡ suc t → ¬ (x t ≡ x (t + p))) → Extent x n i s (i + p + k) p
@@ -84,7 +85,7 @@ module _ {A : Type 0} (x : ℕ → A) (n : ℕ) where
     omega (arith, ends-no-later i s e p s′ e′ m m′, ends-no-later i s′ e′ p s e m′ m),
   )
 
-module _ {A : Type 0} (O : Letters A) (x : ℕ → A) (n : ℕ) where
+module _ {ℓ κ} {A : Type ℓ} (O : Letters {ℓ, κ} A) (x : ℕ → A) (n : ℕ) where
   -- A Lyndon word that stands at its next smaller suffix again ends at a next smaller suffix there too.
   pub next-again : (i p : ℕ) → NextSmaller O x n i (i + p) → Agree x i (i + p) p → i + p + p ≤ n → NextSmaller O x n (i + p) (i + p + p)
   next-again i p w g h =
@@ -266,7 +267,7 @@ module _ {A : Type 0} (O : Letters A) (x : ℕ → A) (n : ℕ) where
       let w = last-root O x n s e p compared r in
       (w .0, root-listed bound s e p (w .0) r (w .1) f l)
 
-module _ {A : Type 0} (O : Letters A) (x : ℕ → A) (n : ℕ) where
+module _ {ℓ κ} {A : Type ℓ} (O : Letters {ℓ, κ} A) (x : ℕ → A) (n : ℕ) where
   -- Every run is listed: under O where its end falls, otherwise under the reversed order.
   pub run-listed : AllCompared O x n → (s e p : ℕ) → SpanRun x n s e p →
       ((i : ℕ) × ListedAt O x n (suc n) i s e p) ⊎ ((i : ℕ) × ListedAt (reversed O) x n n i s e p)
@@ -284,7 +285,7 @@ module _ {A : Type 0} (O : Letters A) (x : ℕ → A) (n : ℕ) where
       by : e < n → (c : Comparison) → Means O c (x e) (x t) →
           ((i : ℕ) × ListedAt O x n (suc n) i s e p) ⊎ ((i : ℕ) × ListedAt (reversed O) x n n i s e p)
       by l below v = inl (under (by-letter l t is v))
-      by l same v = absurd (r .no-right t is l (sym v))
+      by l same v = absurd (r .no-right t is l (sym (v .lower)))
       by l above v =
           inr
           (falls-listed (reversed O) x n (reversed-compared O x n compared) n s e p r
@@ -327,7 +328,7 @@ module _ {A : Type 0} (O : Letters A) (x : ℕ → A) (n : ℕ) where
       go (yes l) (yes m) = absurd (both (w .between (suc i) (omega arith) (omega arith)) (w′ .between (suc i) (omega arith) (omega arith)))
 
 -- Of a run of period 1 and a run of a greater period, under any two orders, no position inside both is a root of both.
-single-letter-apart : {A : Type 0} (O Q : Letters A) (x : ℕ → A) (n bound bound′ i s e p s′ e′ : ℕ) → 1 < p →
+single-letter-apart {ℓ κ} : {A : Type ℓ} (O Q : Letters {ℓ, κ} A) (x : ℕ → A) (n bound bound′ i s e p s′ e′ : ℕ) → 1 < p →
     ListedAt O x n bound i s e p → ¬ ListedAt Q x n bound′ i s′ e′ 1
 single-letter-apart O Q x n bound bound′ i s e p s′ e′ l r r′ =
     let k : ℕ = i - 1 in
@@ -340,7 +341,7 @@ single-letter-apart O Q x n bound bound′ i s e p s′ e′ l r r′ =
     w .smaller .0
     (sym (ap x b) ∙ sym (r′ .extent .left k (omega arith) (omega arith)) ∙ r .extent .left k (omega arith) (omega arith) ∙ ap x c)
 
-module _ {A : Type 0} (O : Letters A) (x : ℕ → A) (n : ℕ) where
+module _ {ℓ κ} {A : Type ℓ} (O : Letters {ℓ, κ} A) (x : ℕ → A) (n : ℕ) where
   -- No position lists a run under O and another under the reversed order.
   pub listed-one-each : (bound i s e p s′ e′ p′ : ℕ) → ListedAt O x n bound i s e p → ¬ ListedAt (reversed O) x n n i s′ e′ p′
   listed-one-each bound i s e p s′ e′ p′ r r′ = go (next-at-once O x n i p p′ (r .next) (r′ .next)) (ℕ-discrete p p′)

@@ -18,7 +18,7 @@ use Rattle.words.specs.Laws.Periods.{run-span, span-run}
 use Rattle.words.specs.Laws.RunListing.{Extent, ListedAt, measure-unique, listed-run, listed-unique, listed-after-start, listed-one-each, run-listed}
 
 -- Position i lists the entry r.
-abbrev pub ListedEntry : {A : Type 0} → Letters A → (ℕ → A) → ℕ → ℕ → ℕ → Entry → Type 0
+abbrev pub ListedEntry {ℓ κ} : {A : Type ℓ} → Letters {ℓ, κ} A → (ℕ → A) → ℕ → ℕ → ℕ → Entry → Type (ℓ ⊔ κ)
 ListedEntry O x n bound i r = ListedAt O x n bound i (r .start) (suc (r .last)) (r .period)
 
 -- The entry of a run from s to e of period p.
@@ -35,7 +35,7 @@ pub end-below : (order n e : ℕ) → e ≤ n → (e < endBound order n) ↔ (0 
 end-below zero n e l = (λ h k. absurd (omega arith), λ h. omega arith)
 end-below (suc order) n e l = (λ h k. h, λ h. h (omega arith))
 
-module _ {A : Type 0} (O : Letters A) (x : ℕ → A) (n bound : ℕ) where
+module _ {ℓ κ} {A : Type ℓ} (O : Letters {ℓ, κ} A) (x : ℕ → A) (n bound : ℕ) where
   -- What a position lists, as an entry.
   pub entry-listed : (i s e p : ℕ) → ListedAt O x n bound i s e p → ListedEntry O x n bound i (entryOf s e p)
   entry-listed i s e p h =
@@ -56,16 +56,16 @@ module _ {A : Type 0} (O : Letters A) (x : ℕ → A) (n bound : ℕ) where
       f
       (omega (arith, h .twice, u .0, u .1, u .2), omega (arith, h .last, u .1, u .2), omega (arith, h .early, u .1))
 
-module _ {A : Type 0} (O : Letters A) (z : A) (x : List A) where
+module _ {ℓ κ} {A : Type ℓ} (O : Letters {ℓ, κ} A) (z : A) (x : List A) where
   -- What is listed is a run.
   pub listed-is-run : (bound i : ℕ) (r : Entry) → ListedEntry O (letters z x) (length x) bound i r → IsRun x r
   listed-is-run bound i r h =
       span-run z x (r .start) (suc (r .last)) (r .period)
       (listed-run O (letters z x) (length x) bound i (r .start) (suc (r .last)) (r .period) h)
 
-module _ {A : Type 0} (O : Letters A) (z : A) (x : List A) where
+module _ {ℓ κ} {A : Type ℓ} (O : Letters {ℓ, κ} A) (z : A) (x : List A) where
   -- A position at which a run is listed, under one order or the other.
-  abbrev pub RunMark : Entry → ℕ → Type 0
+  abbrev pub RunMark : Entry → ℕ → Type (ℓ ⊔ κ)
   RunMark r i =
       ListedEntry O (letters z x) (length x) (suc (length x)) i r ⊎ ListedEntry (reversed O) (letters z x) (length x) (length x) i r
 

@@ -10,11 +10,11 @@ use lib.ListN.{length, getElem?, length-map}
 use Rattle.words.specs.Runs.{SameLetter, HasPeriod, Run, Entry, IsRunList}
 
 -- Texts of one length with equal letters at the same pairs of positions.
-pub record SameEqualities {A B : Type 0} (x : List A) (y : List B) : Type 0 where
+pub record SameEqualities {ℓ ℓ′} {A : Type ℓ} {B : Type ℓ′} (x : List A) (y : List B) : Type (ℓ ⊔ ℓ′) where
   pub size : length x ≡ length y
   pub letters : (i k : ℕ) → i < length x → k < length x → SameLetter x i k ↔ SameLetter y i k
 
-pub same-equalities-sym : {A B : Type 0} {x : List A} {y : List B} → SameEqualities x y → SameEqualities y x
+pub same-equalities-sym {ℓ ℓ′} : {A : Type ℓ} {B : Type ℓ′} {x : List A} {y : List B} → SameEqualities x y → SameEqualities y x
 same-equalities-sym e =
     record {
       size = sym (e .size);
@@ -23,11 +23,11 @@ same-equalities-sym e =
           (both .1, both .0);
     }
 
-pub period-carried :
-    {A B : Type 0} {x : List A} {y : List B} → SameEqualities x y → (s e p : ℕ) → e ≤ length x → HasPeriod x s e p → HasPeriod y s e p
+pub period-carried {ℓ ℓ′} :
+    {A : Type ℓ} {B : Type ℓ′} {x : List A} {y : List B} → SameEqualities x y → (s e p : ℕ) → e ≤ length x → HasPeriod x s e p → HasPeriod y s e p
 period-carried w s e p l h i a b = w .letters i (i + p) (omega arith) (omega arith) .0 (h i a b)
 
-pub run-carried : {A B : Type 0} {x : List A} {y : List B} {s e p : ℕ} → SameEqualities x y → Run x s e p → Run y s e p
+pub run-carried {ℓ ℓ′} : {A : Type ℓ} {B : Type ℓ′} {x : List A} {y : List B} {s e p : ℕ} → SameEqualities x y → Run x s e p → Run y s e p
 run-carried {x = x} {y = y} {s = s} {e = e} {p = p} w r =
     record {
       positive = r .positive;
@@ -40,10 +40,10 @@ run-carried {x = x} {y = y} {s = s} {e = e} {p = p} w r =
     }
 
 -- Texts with the same equalities have the same runs.
-pub run-same : {A B : Type 0} {x : List A} {y : List B} {s e p : ℕ} → SameEqualities x y → Run x s e p ↔ Run y s e p
+pub run-same {ℓ ℓ′} : {A : Type ℓ} {B : Type ℓ′} {x : List A} {y : List B} {s e p : ℕ} → SameEqualities x y → Run x s e p ↔ Run y s e p
 run-same w = (run-carried w, run-carried (same-equalities-sym w))
 
-pub run-list-carried : {A B : Type 0} {x : List A} {y : List B} {rs : List Entry} → SameEqualities x y → IsRunList x rs → IsRunList y rs
+pub run-list-carried {ℓ ℓ′} : {A : Type ℓ} {B : Type ℓ′} {x : List A} {y : List B} {rs : List Entry} → SameEqualities x y → IsRunList x rs → IsRunList y rs
 run-list-carried w l =
     record {
       sound = λ r m. run-carried w (l .sound r m);
@@ -52,24 +52,24 @@ run-list-carried w l =
     }
 
 -- Texts with the same equalities have the same run list.
-pub run-list-same : {A B : Type 0} {x : List A} {y : List B} {rs : List Entry} → SameEqualities x y → IsRunList x rs ↔ IsRunList y rs
+pub run-list-same {ℓ ℓ′} : {A : Type ℓ} {B : Type ℓ′} {x : List A} {y : List B} {rs : List Entry} → SameEqualities x y → IsRunList x rs ↔ IsRunList y rs
 run-list-same w = (run-list-carried w, run-list-carried (same-equalities-sym w))
 
-pub getElem?-map : {A B : Type 0} (f : A → B) (x : List A) (i : ℕ) → getElem? (map f x) i ≡ Option·map f (getElem? x i)
+pub getElem?-map {ℓ ℓ′} : {A : Type ℓ} {B : Type ℓ′} (f : A → B) (x : List A) (i : ℕ) → getElem? (map f x) i ≡ Option·map f (getElem? x i)
 getElem?-map f [] i = refl
 getElem?-map f (a ∷ x) zero = refl
 getElem?-map f (a ∷ x) (suc i) = getElem?-map f x i
 
-pub option-map-injective :
-    {A B : Type 0} (f : A → B) → ((a b : A) → f a ≡ f b → a ≡ b) → (o q : Option A) → Option·map f o ≡ Option·map f q → o ≡ q
+pub option-map-injective {ℓ ℓ′} :
+    {A : Type ℓ} {B : Type ℓ′} (f : A → B) → ((a b : A) → f a ≡ f b → a ≡ b) → (o q : Option A) → Option·map f o ≡ Option·map f q → o ≡ q
 option-map-injective f inj none none e = refl
 option-map-injective f inj none (some b) e = absurd (Option·none-ne-some (f b) e)
 option-map-injective f inj (some a) none e = absurd (Option·some-ne-none (f a) e)
 option-map-injective f inj (some a) (some b) e = ap some (inj a b (Option·some-injective (f a) (f b) e))
 
 -- A renaming that keeps different letters different keeps the equalities.
-pub renaming-same :
-    {A B : Type 0} (f : A → B) → ((a b : A) → f a ≡ f b → a ≡ b) → (x : List A) → SameEqualities x (map f x)
+pub renaming-same {ℓ ℓ′} :
+    {A : Type ℓ} {B : Type ℓ′} (f : A → B) → ((a b : A) → f a ≡ f b → a ≡ b) → (x : List A) → SameEqualities x (map f x)
 renaming-same {A = A} f inj x =
     record {
       size = sym (length-map x f);
@@ -80,7 +80,7 @@ renaming-same {A = A} f inj x =
     }
 
 -- A renaming that keeps different letters different keeps the run list.
-pub run-list-renamed :
-    {A B : Type 0} (f : A → B) → ((a b : A) → f a ≡ f b → a ≡ b) → (x : List A) (rs : List Entry)
+pub run-list-renamed {ℓ ℓ′} :
+    {A : Type ℓ} {B : Type ℓ′} (f : A → B) → ((a b : A) → f a ≡ f b → a ≡ b) → (x : List A) (rs : List Entry)
     → IsRunList x rs ↔ IsRunList (map f x) rs
 run-list-renamed f inj x rs = run-list-same (renaming-same f inj x)

@@ -6,14 +6,15 @@ use Prim.Native.Nat.{ℕ, zero, suc, _+_, _-_, _%_, _<_, _≤_}
 use native.Mathlib.Nat.{mod-lt, mod-eq-of-lt, add-mod-right}
 use native.Mathlib.Omega.{arith}
 use native.Mathlib.Decide.{decLt, ℕ-discrete}
-use Rattle.words.specs.Letters.{Letters, Smaller, Comparison, below, same, above, Means}
+use Rattle.words.specs.Letters.{Letters, Smaller}
+use Rattle.words.specs.Decided.{Comparison, below, same, above, Means}
 use Rattle.words.specs.Laws.Letters.{Compared}
 use Rattle.words.specs.Laws.Position.{Agree, BelowFrom, BelowWithin, SpanLyndon}
 use Rattle.words.specs.Laws.SuffixOrder.{agree-sym, agree-shift, earlier-difference}
 use Rattle.words.specs.Laws.Compared.{AllCompared}
 use Rattle.words.specs.Laws.Periods.{SpanRun}
 
-module _ {A : Type 0} (O : Letters A) (y : ℕ → A) where
+module _ {ℓ κ} {A : Type ℓ} (O : Letters {ℓ, κ} A) (y : ℕ → A) where
   from-irrefl : (i : ℕ) → ¬ BelowFrom O y i i
   from-irrefl i w = w .smaller .0 refl
 
@@ -47,12 +48,12 @@ module _ {A : Type 0} (O : Letters A) (y : ℕ → A) where
       }
 
 -- Two places of a sequence without end are compared on m letters: below, above, or the same.
-pub data ComparedOn {A : Type 0} (O : Letters A) (y : ℕ → A) (i j m : ℕ) : Type 0 where
+pub data ComparedOn {ℓ κ} {A : Type ℓ} (O : Letters {ℓ, κ} A) (y : ℕ → A) (i j m : ℕ) : Type (ℓ ⊔ κ) where
   is-below : BelowFrom O y i j → ComparedOn O y i j m
   is-above : BelowFrom O y j i → ComparedOn O y i j m
   is-same : Agree y i j m → ComparedOn O y i j m
 
-module _ {A : Type 0} (O : Letters A) (y : ℕ → A) (compared : (i j : ℕ) → Compared O (y i) (y j)) where
+module _ {ℓ κ} {A : Type ℓ} (O : Letters {ℓ, κ} A) (y : ℕ → A) (compared : (i j : ℕ) → Compared O (y i) (y j)) where
   compare-on : (i j m : ℕ) → ComparedOn O y i j m
   compare-on i j zero = is-same (λ k l. absurd (omega arith))
   compare-on i j (suc m) = go (compare-on i j m)
@@ -64,7 +65,7 @@ module _ {A : Type 0} (O : Letters A) (y : ℕ → A) (compared : (i j : ℕ) �
         where
           at : (k : ℕ) → k < suc m → Dec (k < m) → y (i + k) ≡ y (j + k)
           at k l (yes r) = g k r
-          at k l (no r) = let t : m ≡ k = omega (arith, r) in subst (λ (z : ℕ). y (i + z) ≡ y (j + z)) t s
+          at k l (no r) = let t : m ≡ k = omega (arith, r) in subst (λ (z : ℕ). y (i + z) ≡ y (j + z)) t (s .lower)
 
       go : ComparedOn O y i j m → ComparedOn O y i j (suc m)
       go (is-below w) = is-below w
@@ -72,17 +73,17 @@ module _ {A : Type 0} (O : Letters A) (y : ℕ → A) (compared : (i j : ℕ) �
       go (is-same g) = let c = compared (i + m) (j + m) in letter g (c .0) (c .1)
 
 -- The sequence repeats every p letters, and after no smaller distance.
-pub record Primitive {A : Type 0} (y : ℕ → A) (p : ℕ) : Type 0 where
+pub record Primitive {ℓ} {A : Type ℓ} (y : ℕ → A) (p : ℕ) : Type ℓ where
   pub positive : 0 < p
   pub repeats : (t : ℕ) → y t ≡ y (t + p)
   pub no-sooner : (d : ℕ) → 0 < d → d < p → ¬ ((t : ℕ) → y t ≡ y (t + d))
 
 -- The rotation at k is below the rotations at all other numbers below m.
-pub record LeastRotation {A : Type 0} (O : Letters A) (y : ℕ → A) (m k : ℕ) : Type 0 where
+pub record LeastRotation {ℓ κ} {A : Type ℓ} (O : Letters {ℓ, κ} A) (y : ℕ → A) (m k : ℕ) : Type (ℓ ⊔ κ) where
   pub early : k < m
   pub least : (j : ℕ) → j < m → ¬ (j ≡ k) → BelowFrom O y k j
 
-module _ {A : Type 0} (y : ℕ → A) (p : ℕ) (w : Primitive y p) where
+module _ {ℓ} {A : Type ℓ} (y : ℕ → A) (p : ℕ) (w : Primitive y p) where
   -- What agrees over a period agrees everywhere.
   agree-on : (i j : ℕ) → Agree y i j p → (fuel t : ℕ) → t < fuel → y (i + t) ≡ y (j + t)
   agree-on i j g zero t l = absurd (omega arith)
@@ -111,7 +112,7 @@ module _ {A : Type 0} (y : ℕ → A) (p : ℕ) (w : Primitive y p) where
           let e : t + p + d ≡ t + d + p = omega arith in
           w .repeats t ∙ from (t + p) (omega arith) ∙ ap y e ∙ sym (w .repeats (t + d))
 
-module _ {A : Type 0} (O : Letters A) (y : ℕ → A) (p : ℕ) (w : Primitive y p) (compared : (i j : ℕ) → Compared O (y i) (y j)) where
+module _ {ℓ κ} {A : Type ℓ} (O : Letters {ℓ, κ} A) (y : ℕ → A) (p : ℕ) (w : Primitive y p) (compared : (i j : ℕ) → Compared O (y i) (y j)) where
   rotation-compare : (i j : ℕ) → i < j → j < p → BelowFrom O y i j ⊎ BelowFrom O y j i
   rotation-compare i j l h = go (compare-on O y compared i j p)
     where
@@ -176,7 +177,7 @@ module _ {A : Type 0} (O : Letters A) (y : ℕ → A) (p : ℕ) (w : Primitive y
               absurd (from-asym O y k (k + m) (least-below k v (k + m) (omega arith) (omega arith)) d)
 
 -- Where p letters from i in x and from j in y on are the same, they are a Lyndon word in both or in none.
-pub lyndon-carried : {A : Type 0} (O : Letters A) (x y : ℕ → A) (i j p : ℕ) → ((u : ℕ) → u < p → x (i + u) ≡ y (j + u)) →
+pub lyndon-carried {ℓ κ} : {A : Type ℓ} (O : Letters {ℓ, κ} A) (x y : ℕ → A) (i j p : ℕ) → ((u : ℕ) → u < p → x (i + u) ≡ y (j + u)) →
     SpanLyndon O x i (i + p) → SpanLyndon O y j (j + p)
 lyndon-carried {A} O x y i j p g v =
     record { non-empty = omega (arith, v .non-empty); below = λ k a b. within k a b (v .below (i + (k - j)) (omega arith) (omega arith)) }
@@ -199,13 +200,13 @@ lyndon-carried {A} O x y i j p g v =
             ap x c ∙ g ((k - j) + u) (omega arith) ∙ ap y d
 
 -- The Lyndon word of period p that starts last in a run from s to e.
-pub record LastRoot {A : Type 0} (O : Letters A) (x : ℕ → A) (s e p i : ℕ) : Type 0 where
+pub record LastRoot {ℓ κ} {A : Type ℓ} (O : Letters {ℓ, κ} A) (x : ℕ → A) (s e p i : ℕ) : Type (ℓ ⊔ κ) where
   pub low : s ≤ i
   pub high : i + p ≤ e
   pub last : e < i + (p + p)
   pub lyndon : SpanLyndon O x i (i + p)
 
-module _ {A : Type 0} (O : Letters A) (x : ℕ → A) (n s e p : ℕ) (compared : AllCompared O x n) (r : SpanRun x n s e p) where
+module _ {ℓ κ} {A : Type ℓ} (O : Letters {ℓ, κ} A) (x : ℕ → A) (n s e p : ℕ) (compared : AllCompared O x n) (r : SpanRun x n s e p) where
   -- The first p letters of the run, repeated without end.
   abbrev turning : ℕ → A
   turning t = x (s + t % p)

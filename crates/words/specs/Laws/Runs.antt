@@ -10,7 +10,7 @@ use Rattle.words.specs.Runs.{HasPeriod, Run, Entry, Earlier, Sorted, IsR
 use Rattle.words.specs.Laws.Numbers.{least-unique}
 
 -- Runs with one start and one end have one period.
-pub run-period-unique : {A : Type 0} {x : List A} {s e p q : ℕ} → Run x s e p → Run x s e q → p ≡ q
+pub run-period-unique {ℓ} : {A : Type ℓ} {x : List A} {s e p q : ℕ} → Run x s e p → Run x s e q → p ≡ q
 run-period-unique {x = x} {s = s} {e = e} {p = p} {q = q} r t =
     least-unique (λ k. (0 < k) × HasPeriod x s e k) (r .positive, r .period) (λ k l h. r .smallest k (h .0) l (h .1))
     (t .positive, t .period) (λ k l h. t .smallest k (h .0) l (h .1))
@@ -62,7 +62,7 @@ sorted-unique (r ∷ rs) (t ∷ ts) h k f g =
         later r rs u l (List·Memᴰ·cases-cons (g u (List·Memᴰ·tail m)))
 
 -- A text has at most one run list.
-pub run-list-unique : {A : Type 0} {x : List A} {rs ts : List Entry} → IsRunList x rs → IsRunList x ts → rs ≡ ts
+pub run-list-unique {ℓ} : {A : Type ℓ} {x : List A} {rs ts : List Entry} → IsRunList x rs → IsRunList x ts → rs ≡ ts
 run-list-unique {rs = rs} {ts = ts} a b =
     sorted-unique rs ts (a .sorted) (b .sorted) (λ r m. b .complete r (a .sound r m)) (λ r m. a .complete r (b .sound r m))
 

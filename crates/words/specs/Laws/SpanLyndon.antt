@@ -15,10 +15,10 @@ use Rattle.words.specs.Laws.Word.{Alike, DiffersAt, strongly-less-differ
 use Rattle.words.specs.Laws.Position.{BelowWithin, SpanLyndon, SpanLess, differs, shorter}
 
 -- The letters of a list by position; z stands past the end.
-abbrev pub letters : {A : Type 0} → A → List A → ℕ → A
+abbrev pub letters {ℓ} : {A : Type ℓ} → A → List A → ℕ → A
 letters z x i = getD x i z
 
-module _ {A : Type 0} (O : Letters A) (z : A) (x : List A) where
+module _ {ℓ κ} {A : Type ℓ} (O : Letters {ℓ, κ} A) (z : A) (x : List A) where
   pub length-span : (i e : ℕ) → e ≤ length x → length (span i e x) ≡ e - i
   length-span i e h = length-drop i (take e x) ∙ ap (λ (m : ℕ). m - i) (length-take-le e x h)
 

@@ -7,7 +7,8 @@ use Prim.Native.Nat.{ℕ, zero, suc, _+_, _<_, _≤_}
 use native.Mathlib.Omega.{arith}
 use native.Mathlib.Decide.{decLt}
 use lib.ListN.{length}
-use Rattle.words.specs.Letters.{Letters, Decided}
+use Rattle.words.specs.Letters.{Letters}
+use Rattle.words.specs.Decided.{Decided}
 use Rattle.words.specs.Word.{span, Less}
 use Rattle.words.specs.RightForest.{RightCut}
 use Rattle.words.specs.Laws.Position.{BelowWithin, SpanLyndon, SpanLess, differs, shorter}
@@ -17,29 +18,29 @@ use Rattle.words.specs.Laws.NextSmaller.{lyndon-below}
 use Rattle.words.specs.Laws.Compared.{AllCompared, decided-compared, suffix-compare, all-compared-irrefutable}
 
 -- The span from a to b is cut before c as u·v, v the smallest of its proper non-empty suffixes (document 002, "Lyndon trees (1)").
-pub record SmallestSuffix {A : Type 0} (O : Letters A) (x : List A) (a c b : ℕ) : Type 0 where
+pub record SmallestSuffix {ℓ κ} {A : Type ℓ} (O : Letters {ℓ, κ} A) (x : List A) (a c b : ℕ) : Type (ℓ ⊔ κ) where
   pub proper : a < c
   pub inside : c < b
   pub smallest : (k : ℕ) → a < k → k < b → ¬ (k ≡ c) → Less O (span c b x) (span k b x)
 
 -- Suffixes of the text cut off at b, and spans that end there.
-suffix-span : {A : Type 0} (O : Letters A) (x : ℕ → A) (b i j : ℕ) → SuffixLess O x b i j → SpanLess O x i b j b
+suffix-span {ℓ κ} : {A : Type ℓ} (O : Letters {ℓ, κ} A) (x : ℕ → A) (b i j : ℕ) → SuffixLess O x b i j → SpanLess O x i b j b
 suffix-span O x b i j (ends d p q g) = shorter d p q g
 suffix-span O x b i j (parts d p q g s) = differs d p q g s
 
-span-suffix : {A : Type 0} (O : Letters A) (x : ℕ → A) (b i j : ℕ) → SpanLess O x i b j b → SuffixLess O x b i j
+span-suffix {ℓ κ} : {A : Type ℓ} (O : Letters {ℓ, κ} A) (x : ℕ → A) (b i j : ℕ) → SpanLess O x i b j b → SuffixLess O x b i j
 span-suffix O x b i j (shorter d p q g) = ends d p q g
 span-suffix O x b i j (differs d p q g s) = parts d p q g s
 
 -- A suffix smaller than all that start behind it is a Lyndon word.
-smaller-lyndon : {A : Type 0} (O : Letters A) (x : ℕ → A) (b i : ℕ) → i < b → ((j : ℕ) → i < j → j < b → SuffixLess O x b i j) → SpanLyndon O x i b
+smaller-lyndon {ℓ κ} : {A : Type ℓ} (O : Letters {ℓ, κ} A) (x : ℕ → A) (b i : ℕ) → i < b → ((j : ℕ) → i < j → j < b → SuffixLess O x b i j) → SpanLyndon O x i b
 smaller-lyndon O x b i l h = record { non-empty = l; below = λ j p q. within j p (h j p q) }
   where
     within : (j : ℕ) → i < j → SuffixLess O x b i j → BelowWithin O x i j b
     within j p (ends d u v g) = absurd (omega arith)
     within j p (parts d u v g s) = record { offset = d; inside = v; agree = g; smaller = s }
 
-module _ {A : Type 0} (O : Letters A) (x : ℕ → A) (a c b : ℕ) (compared : AllCompared O x b) (lyndon : SpanLyndon O x c b)
+module _ {ℓ κ} {A : Type ℓ} (O : Letters {ℓ, κ} A) (x : ℕ → A) (a c b : ℕ) (compared : AllCompared O x b) (lyndon : SpanLyndon O x c b)
     (longest : (k : ℕ) → a < k → k < c → ¬ SpanLyndon O x k b) where
   longest-behind : (j : ℕ) → c < j → j < b → SuffixLess O x b c j
   longest-behind = lyndon-below O x b c b lyndon (omega arith)
@@ -75,7 +76,7 @@ module _ {A : Type 0} (O : Letters A) (x : ℕ → A) (a c b : ℕ) (compared : 
       go (yes l) = longest-before c k p l (omega arith)
       go (no l) = longest-behind k (omega (arith, n)) q
 
-module _ {A : Type 0} (O : Letters A) (z : A) (x : List A) (a c b : ℕ) (f : b ≤ length x) where
+module _ {ℓ κ} {A : Type ℓ} (O : Letters {ℓ, κ} A) (z : A) (x : List A) (a c b : ℕ) (f : b ≤ length x) where
   right-cut-suffix : AllCompared O (letters z x) b → RightCut O x a c b → (k : ℕ) → a < k → k < b → ¬ (k ≡ c) → SuffixLess O (letters z x) b c k
   right-cut-suffix compared r =
       longest-smallest O (letters z x) a c b compared (lyndon-span O z x c b f (r .lyndon))
@@ -123,18 +124,18 @@ module _ {A : Type 0} (O : Letters A) (z : A) (x : List A) (a c b : ℕ) (f : b 
       }
 
 -- The cut of the standard factorization is that of the right forest's rule.
-pub smallest-right-cut : {A : Type 0} (O : Letters A) (x : List A) (a c b : ℕ) → b ≤ length x → SmallestSuffix O x a c b → RightCut O x a c b
+pub smallest-right-cut {ℓ κ} : {A : Type ℓ} (O : Letters {ℓ, κ} A) (x : List A) (a c b : ℕ) → b ≤ length x → SmallestSuffix O x a c b → RightCut O x a c b
 smallest-right-cut O [] a c b f s = absurd (omega (arith, s .inside))
 smallest-right-cut O (e ∷ x) a c b f s = smallest-cut O e (e ∷ x) a c b f s
 
 -- The right forest's rule cuts off a suffix of which no other proper one is smaller.
-pub right-cut-none-smaller : {A : Type 0} (O : Letters A) (x : List A) (a c b : ℕ) → b ≤ length x → RightCut O x a c b
+pub right-cut-none-smaller {ℓ κ} : {A : Type ℓ} (O : Letters {ℓ, κ} A) (x : List A) (a c b : ℕ) → b ≤ length x → RightCut O x a c b
     → (k : ℕ) → a < k → k < b → ¬ (k ≡ c) → ¬ Less O (span k b x) (span c b x)
 right-cut-none-smaller O [] a c b f r k p q n = absurd (omega (arith, r .inside))
 right-cut-none-smaller O (e ∷ x) a c b f r k p q n = right-cut-least O e (e ∷ x) a c b f r k p q n
 
 -- For letters whose comparisons are decided the two are the same: document 000's cut and document 002's.
-pub standard-factorization : {A : Type 0} {O : Letters A} → Decided O → (x : List A) (a c b : ℕ) → b ≤ length x
+pub standard-factorization {ℓ κ} : {A : Type ℓ} {O : Letters {ℓ, κ} A} → Decided O → (x : List A) (a c b : ℕ) → b ≤ length x
     → RightCut O x a c b ↔ SmallestSuffix O x a c b
 standard-factorization {O = O} D [] a c b f = (λ r. absurd (omega (arith, r .inside)), smallest-right-cut O [] a c b f)
 standard-factorization {O = O} D (e ∷ x) a c b f = (

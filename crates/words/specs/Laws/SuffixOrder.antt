@@ -9,18 +9,18 @@ use Rattle.words.specs.Laws.Letters.{smaller-trans}
 use Rattle.words.specs.Laws.Position.{Agree, BelowFrom, BelowWithin}
 
 -- The suffix at i is smaller than the suffix at j, in a text of n letters: it ends first, or has the smaller letter where they first differ.
-pub data SuffixLess {A : Type 0} (O : Letters A) (x : ℕ → A) (n i j : ℕ) : Type 0 where
+pub data SuffixLess {ℓ κ} {A : Type ℓ} (O : Letters {ℓ, κ} A) (x : ℕ → A) (n i j : ℕ) : Type (ℓ ⊔ κ) where
   ends : (d : ℕ) → i + d ≡ n → j + d < n → Agree x i j d → SuffixLess O x n i j
   parts : (d : ℕ) → i + d < n → j + d < n → Agree x i j d → Smaller O (x (i + d)) (x (j + d)) → SuffixLess O x n i j
 
 -- The suffix at e is the next smaller one after i.
-pub record NextSmaller {A : Type 0} (O : Letters A) (x : ℕ → A) (n i e : ℕ) : Type 0 where
+pub record NextSmaller {ℓ κ} {A : Type ℓ} (O : Letters {ℓ, κ} A) (x : ℕ → A) (n i e : ℕ) : Type (ℓ ⊔ κ) where
   pub after : i < e
   pub inside : e ≤ n
   pub drops : SuffixLess O x n e i
   pub between : (k : ℕ) → i < k → k < e → SuffixLess O x n i k
 
-module _ {A : Type 0} (x : ℕ → A) where
+module _ {ℓ} {A : Type ℓ} (x : ℕ → A) where
   pub agree-sym : (i j d : ℕ) → Agree x i j d → Agree x j i d
   agree-sym i j d g k l = sym (g k l)
 
@@ -48,7 +48,7 @@ module _ {A : Type 0} (x : ℕ → A) where
           let b : j + k ≡ j + m + (k - m) = omega (arith, p) in
           ap x a ∙ h (k - m) (omega (arith, p)) ∙ sym (ap x b)
 
-module _ {A : Type 0} (O : Letters A) (x : ℕ → A) where
+module _ {ℓ κ} {A : Type ℓ} (O : Letters {ℓ, κ} A) (x : ℕ → A) where
   -- Below a second, and that below a third: the earlier of the two differences decides, so none later than the second one.
   pub earlier-difference : (i j k : ℕ) → BelowFrom O x i j → (q : BelowFrom O x j k) → (w : BelowFrom O x i k) × (w .offset ≤ q .offset)
   earlier-difference i j k p q = go (decLt c d) (decLt d c)
@@ -86,7 +86,7 @@ module _ {A : Type 0} (O : Letters A) (x : ℕ → A) where
             omega arith,
           )
 
-module _ {A : Type 0} (O : Letters A) (x : ℕ → A) (n : ℕ) where
+module _ {ℓ κ} {A : Type ℓ} (O : Letters {ℓ, κ} A) (x : ℕ → A) (n : ℕ) where
   smaller-at : (i j i′ j′ : ℕ) → i ≡ i′ → j ≡ j′ → Smaller O (x i) (x j) → Smaller O (x i′) (x j′)
   smaller-at i j i′ j′ p q s =
       subst (λ (k : ℕ). Smaller O (x k) (x j′)) p (subst (λ (k : ℕ). Smaller O (x i) (x k)) q s)

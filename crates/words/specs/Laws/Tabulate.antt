@@ -33,6 +33,6 @@ tabulate-append f i (suc k) m =
     rw (e, o) (ap (λ (r : List ℕ). f i ∷ r) (tabulate-append f (suc i) k m))
 
 -- What holds of each value holds of each entry of the row.
-pub tabulate-each : (P : ℕ → ℕ → Type 0) (f : ℕ → ℕ) (n : ℕ) → ((i : ℕ) → i < n → P i (f i)) → (i : ℕ) → i < n → P i (getD (tabulate f 0 n) i 0)
+pub tabulate-each {ℓ} : (P : ℕ → ℕ → Type ℓ) (f : ℕ → ℕ) (n : ℕ) → ((i : ℕ) → i < n → P i (f i)) → (i : ℕ) → i < n → P i (getD (tabulate f 0 n) i 0)
 tabulate-each P f n h i l =
     subst (P i) (sym (ap f (zero-add i)) ∙ sym (getD-tabulate f 0 n i l)) (h i l)

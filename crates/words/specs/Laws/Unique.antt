@@ -18,7 +18,7 @@ use Rattle.words.specs.Tabulate.{tabulate}
 use Rattle.words.specs.Laws.Tabulate.{tabulate-append}
 use Rattle.words.specs.Laws.Factorization.{factor-holding}
 
-module _ {A : Type 0} {O : Letters A} {x : List A} where
+module _ {ℓ κ} {A : Type ℓ} {O : Letters {ℓ, κ} A} {x : List A} where
   -- Two longest Lyndon words from i have one length.
   pub longest-from-unique : {i l m : ℕ} → LongestFrom O x i l → LongestFrom O x i m → l ≡ m
   longest-from-unique {l = l} {m = m} u v =
@@ -66,7 +66,7 @@ record AgreeAt (first past first′ past′ : List ℕ) (j : ℕ) : Type 0 where
   firsts : getD first j 0 ≡ getD first′ j 0
   pasts : getD past j 0 ≡ getD past′ j 0
 
-module _ {Rule : ℕ → ℕ → ℕ → Type 0} where
+module _ {ρ} {Rule : ℕ → ℕ → ℕ → Type ρ} where
   -- A tree is cut before each position strictly inside its span, from left to right and once.
   pub cuts-are : {a b : ℕ} (t : CutTree Rule a b) → ((a c b : ℕ) → Rule a c b → (a < c) × (c < b))
       → cuts t ≡ tabulate (λ j. j) (suc a) (b - suc a)
@@ -82,7 +82,8 @@ module _ {Rule : ℕ → ℕ → ℕ → Type 0} where
       rw (cuts-are u inside, cuts-are v inside, ← z, ← tabulate-append (λ j. j) (suc a) k (suc m), ← e)
 
 module _
-    {Rule : ℕ → ℕ → ℕ → Type 0}
+    {ρ}
+    {Rule : ℕ → ℕ → ℕ → Type ρ}
     (unique : (a c e b : ℕ) → Rule a c b → Rule a e b → c ≡ e)
     (first past first′ past′ : List ℕ)
   where
@@ -117,7 +118,7 @@ module _
             record { firsts = cc (t .own-first, t′ .own-first); pasts = cc (t .own-past, t′ .own-past) }
 
 -- Forests under a rule that allows one cut of a span, over the same factors, are equal.
-pub forest-unique : {A : Type 0} {O : Letters A} {x : List A} {Rule : ℕ → ℕ → ℕ → Type 0} {first past first′ past′ : List ℕ}
+pub forest-unique {ℓ κ ρ} : {A : Type ℓ} {O : Letters {ℓ, κ} A} {x : List A} {Rule : ℕ → ℕ → ℕ → Type ρ} {first past first′ past′ : List ℕ}
     → ((a c e b : ℕ) → Rule a c b → Rule a e b → c ≡ e)
     → (f : IsForest O Rule x first past) (g : IsForest O Rule x first′ past′) → f .factor-starts ≡ g .factor-starts
     → (first ≡ first′) × (past ≡ past′)

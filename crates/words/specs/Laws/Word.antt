@@ -10,17 +10,17 @@ use Rattle.words.specs.Letters.{Letters, Smaller}
 use Rattle.words.specs.Word.{ProperPrefix, StronglyLess}
 
 -- The two words have the same letters below offset d; z stands for a letter past the end.
-abbrev pub Alike : {A : Type 0} → A → List A → List A → ℕ → Type 0
+abbrev pub Alike {ℓ} : {A : Type ℓ} → A → List A → List A → ℕ → Type ℓ
 Alike z u v d = (k : ℕ) → k < d → getD u k z ≡ getD v k z
 
 -- u and v first differ at an offset inside both, where u has the smaller letter.
-pub record DiffersAt {A : Type 0} (O : Letters A) (z : A) (u v : List A) (d : ℕ) : Type 0 where
+pub record DiffersAt {ℓ κ} {A : Type ℓ} (O : Letters {ℓ, κ} A) (z : A) (u v : List A) (d : ℕ) : Type (ℓ ⊔ κ) where
   pub in-left : d < length u
   pub in-right : d < length v
   pub alike : Alike z u v d
   pub smaller : Smaller O (getD u d z) (getD v d z)
 
-module _ {A : Type 0} (O : Letters A) (z : A) where
+module _ {ℓ κ} {A : Type ℓ} (O : Letters {ℓ, κ} A) (z : A) where
   pub strongly-less-differs : (u v : List A) → StronglyLess O u v → (d : ℕ) × DiffersAt O z u v d
   strongly-less-differs u v h = (
     length (h .r),

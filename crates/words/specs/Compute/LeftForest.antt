@@ -1,4 +1,4 @@
--- The forests of a text computed from the starts of its factors, for letters whose comparisons are decided.
+-- The left forest of a text computed from the starts of its factors, for letters whose comparisons are decided.
 -- Assumes nothing.
 use mathlib.Core.Path.{_≡_, refl, sym, ap, _∙_}
 use mathlib.Core.Bool.{Bool, true, false}
@@ -8,15 +8,15 @@ use native.Mathlib.Omega.{arith}
 use lib.ListN.{length, getD, drop, length-append}
 use lib.Seq.{drop-drop, getD-drop, drop-append-seam}
 use lib.Dec.{T, ltb, ltb→lt, nltb→le}
-use Rattle.words.specs.Letters.{Letters, Decided}
+use Rattle.words.specs.Letters.{Letters}
+use Rattle.words.specs.Decided.{Decided}
 use Rattle.words.specs.Word.{span}
 use Rattle.words.specs.Factorization.{IsFactorization}
 use Rattle.words.specs.CutTree.{CutTree, letter, cut, Recorded, Tree, IsForest}
-use Rattle.words.specs.RightForest.{RightCut, IsRightForest}
 use Rattle.words.specs.LeftForest.{LeftCut, IsLeftForest}
 use Rattle.words.specs.Laws.Lyndon.{LyndonTest, test-letter}
 use Rattle.words.specs.Compute.Lyndon.{lyndonb, lyndon-test}
-use Rattle.words.specs.Compute.Search.{greatestBelow, GreatestBelow, greatestBelow-holds, at-most-greatest, leastFrom, LeastFrom, leastFrom-holds, least-at-most}
+use Rattle.words.specs.Compute.Search.{greatestBelow, GreatestBelow, greatestBelow-holds, at-most-greatest}
 use Rattle.words.specs.Laws.Factorization.{Divides, division-reaches, factors-divide}
 
 -- What FIRST records of a cut of the span from a to b.
@@ -43,32 +43,20 @@ abbrev pub forestOf : (ℕ → ℕ → ℕ) → (ℕ → ℕ → ℕ) → ℕ �
 forestOf cutAt note n [] = []
 forestOf cutAt note n (a ∷ s) = a ∷ (recordsOf cutAt note n a (getD s 0 n) ++ forestOf cutAt note n s)
 
--- The start of the longest proper Lyndon suffix of the span from a to b.
-abbrev pub rightCutAt : {A : Type 0} {O : Letters A} → Decided O → List A → ℕ → ℕ → ℕ
-rightCutAt D x a b = leastFrom (λ k. lyndonb D (span k b x)) (suc a) (b - suc a)
-
 -- The end of the longest proper Lyndon prefix of the span from a to b.
-abbrev pub leftCutAt : {A : Type 0} {O : Letters A} → Decided O → List A → ℕ → ℕ → ℕ
+abbrev pub leftCutAt {ℓ κ} : {A : Type ℓ} {O : Letters {ℓ, κ} A} → Decided O → List A → ℕ → ℕ → ℕ
 leftCutAt D x a b = greatestBelow (λ k. lyndonb D (span a k x)) b
 
--- FIRST of the right forest of x, whose factors start at s.
-abbrev pub rightFirstOf : {A : Type 0} {O : Letters A} → Decided O → List A → List ℕ → List ℕ
-rightFirstOf D x s = forestOf (rightCutAt D x) firstOf (length x) s
-
--- PAST of the right forest of x, whose factors start at s.
-abbrev pub rightPastOf : {A : Type 0} {O : Letters A} → Decided O → List A → List ℕ → List ℕ
-rightPastOf D x s = forestOf (rightCutAt D x) pastOf (length x) s
-
 -- FIRST of the left forest of x, whose factors start at s.
-abbrev pub leftFirstOf : {A : Type 0} {O : Letters A} → Decided O → List A → List ℕ → List ℕ
+abbrev pub leftFirstOf {ℓ κ} : {A : Type ℓ} {O : Letters {ℓ, κ} A} → Decided O → List A → List ℕ → List ℕ
 leftFirstOf D x s = forestOf (leftCutAt D x) firstOf (length x) s
 
 -- PAST of the left forest of x, whose factors start at s.
-abbrev pub leftPastOf : {A : Type 0} {O : Letters A} → Decided O → List A → List ℕ → List ℕ
+abbrev pub leftPastOf {ℓ κ} : {A : Type ℓ} {O : Letters {ℓ, κ} A} → Decided O → List A → List ℕ → List ℕ
 leftPastOf D x s = forestOf (leftCutAt D x) pastOf (length x) s
 
 -- The rule cuts strictly inside a span, and its cut of each span of two letters or more up to n is computed.
-pub record CutsBy (Rule : ℕ → ℕ → ℕ → Type 0) (cutAt : ℕ → ℕ → ℕ) (n : ℕ) : Type 0 where
+pub record CutsBy {ρ} (Rule : ℕ → ℕ → ℕ → Type ρ) (cutAt : ℕ → ℕ → ℕ) (n : ℕ) : Type ρ where
   pub inside : (a c b : ℕ) → Rule a c b → (a < c) × (c < b)
   pub right : (a b : ℕ) → suc a < b → b ≤ n → Rule a (cutAt a b) b
 
@@ -104,7 +92,7 @@ records-cut cutAt note d a b e = rw (e, recordsOf)
 records-letter : (cutAt note : ℕ → ℕ → ℕ) (d a b : ℕ) → ltb (suc a) b ≡ false → recordsOf cutAt note (suc d) a b ≡ []
 records-letter cutAt note d a b e = rw (e, recordsOf)
 
-module _ {Rule : ℕ → ℕ → ℕ → Type 0} {cutAt : ℕ → ℕ → ℕ} {n : ℕ} (R : CutsBy Rule cutAt n) where
+module _ {ρ} {Rule : ℕ → ℕ → ℕ → Type ρ} {cutAt : ℕ → ℕ → ℕ} {n : ℕ} (R : CutsBy Rule cutAt n) where
   cut-inside : (a b : ℕ) → suc a < b → b ≤ n → (a < cutAt a b) × (cutAt a b < b)
   cut-inside a b h f = R .inside a (cutAt a b) b (R .right a b h f)
 
@@ -210,7 +198,7 @@ module _ {Rule : ℕ → ℕ → ℕ → Type 0} {cutAt : ℕ → ℕ → ℕ} {
       (omega arith)
 
 -- The lists computed from a rule's cuts are the forest under that rule.
-pub forestOf-holds : {A : Type 0} {O : Letters A} {x : List A} {s : List ℕ} {Rule : ℕ → ℕ → ℕ → Type 0} {cutAt : ℕ → ℕ → ℕ}
+pub forestOf-holds {ℓ κ ρ} : {A : Type ℓ} {O : Letters {ℓ, κ} A} {x : List A} {s : List ℕ} {Rule : ℕ → ℕ → ℕ → Type ρ} {cutAt : ℕ → ℕ → ℕ}
     → CutsBy Rule cutAt (length x) → IsFactorization O x s
     → IsForest O Rule x (forestOf cutAt firstOf (length x) s) (forestOf cutAt pastOf (length x) s)
 forestOf-holds {x = x} {s = s} {cutAt = cutAt} R F =
@@ -224,26 +212,8 @@ forestOf-holds {x = x} {s = s} {cutAt = cutAt} R F =
       factor = factor-trees R (forestOf cutAt firstOf n s) (forestOf cutAt pastOf n s) 0 s d refl refl;
     }
 
-module _ {A : Type 0} {O : Letters A} {x : List A} (t : LyndonTest O x) where
-  -- The least start behind a that passes a test for Lyndon words is the cut of the right forest's rule.
-  pub least-right-cuts : CutsBy (RightCut O x) (λ a b. leastFrom (λ k. t .test k b) (suc a) (b - suc a)) (length x)
-  least-right-cuts = record { inside = λ a c b r. (r .proper, r .inside); right = right }
-    where
-      right : (a b : ℕ) → suc a < b → b ≤ length x → RightCut O x a (leastFrom (λ k. t .test k b) (suc a) (b - suc a)) b
-      right a zero h f = absurd (omega arith)
-      right a (suc e) h f =
-          let p : ℕ → Bool = λ k. t .test k (suc e) in
-          let c = leastFrom p (suc a) (suc e - suc a) in
-          let one : T (p e) = test-letter t e f in
-          let g : LeastFrom p (suc a) c = leastFrom-holds p (suc a) (suc e - suc a) e (omega arith) (omega arith) one in
-          record {
-            proper = g .reached;
-            inside = omega (arith, least-at-most g e (omega arith) one);
-            lyndon = t .right c (suc e) f .0 (g .passes);
-            longest = λ k i j l. g .least k i j (t .right k (suc e) f .1 l);
-          }
-
-  -- The greatest end before b that passes is the cut of the left forest's rule.
+module _ {ℓ κ} {A : Type ℓ} {O : Letters {ℓ, κ} A} {x : List A} (t : LyndonTest O x) where
+  -- The greatest end before b that passes a test for Lyndon words is the cut of the left forest's rule.
   pub greatest-left-cuts : CutsBy (LeftCut O x) (λ a b. greatestBelow (λ k. t .test a k) b) (length x)
   greatest-left-cuts = record { inside = λ a c b r. (r .non-empty, r .proper); right = right }
     where
@@ -260,11 +230,7 @@ module _ {A : Type 0} {O : Letters A} {x : List A} (t : LyndonTest O x) where
             longest = λ k i j l. g .greatest k i j (t .right a k (omega arith) .1 l);
           }
 
-module _ {A : Type 0} {O : Letters A} (D : Decided O) (x : List A) where
-  -- The computed lists are the right forest.
-  pub rightForestOf-holds : {s : List ℕ} → IsFactorization O x s → IsRightForest O x (rightFirstOf D x s) (rightPastOf D x s)
-  rightForestOf-holds F = forestOf-holds (least-right-cuts (lyndon-test D x)) F
-
+module _ {ℓ κ} {A : Type ℓ} {O : Letters {ℓ, κ} A} (D : Decided O) (x : List A) where
   -- The computed lists are the left forest.
   pub leftForestOf-holds : {s : List ℕ} → IsFactorization O x s → IsLeftForest O x (leftFirstOf D x s) (leftPastOf D x s)
   leftForestOf-holds F = forestOf-holds (greatest-left-cuts (lyndon-test D x)) F

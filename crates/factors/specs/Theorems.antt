@@ -1,0 +1,115 @@
+-- What the contracts of the calls say by the published definitions: texts of 1 to 1,048,576 letters are accepted, and what is then in the
+-- buffers.
+-- Assumes nothing.
+use mathlib.Core.Path.{_≡_, refl, _∙_}
+use mathlib.Core.List.{List}
+use Prim.Native.Nat.{ℕ, _≤_}
+use lib.ListN.{length, take, drop}
+use Rattle.words.specs.Factorization.{IsFactorization}
+use Rattle.words.specs.SuffixTable.{IsSuffixTable}
+use Rattle.words.specs.LeftForest.{IsLeftForest}
+use Rattle.words.specs.Compute.Factorization.{factorizationOf, factorizationOf-holds}
+use Rattle.words.specs.Compute.SuffixTable.{suffixTableOf, suffixTableOf-holds}
+use Rattle.words.specs.Compute.LeftForest.{leftFirstOf, leftPastOf, leftForestOf-holds}
+use Rattle.answer.specs.Answers.{acceptedWith}
+use Rattle.answer.specs.Checks.{lengthChecked, outputChecked, contentAfter}
+use Rattle.answer.specs.CheckLaws.{output-passes}
+use Rattle.answer.specs.AcceptedContent.{Sized, sized-passes, written-first, written-rest}
+use Rattle.factors.specs.Default.{defaultOrder, decided-default}
+use Rattle.factors.specs.Answers.{factorizationAnswer, suffixTableAnswer, leftForestAnswer}
+
+-- What `factorization` leaves in its buffer, by its contract.
+abbrev pub startsAfter : List ℕ → List ℕ → List ℕ
+startsAfter x out = contentAfter (factorizationAnswer x (length out)) (factorizationOf decided-default x) out
+
+-- What `suffix_table` leaves in its buffer, by its contract.
+abbrev pub tableAfter : List ℕ → List ℕ → List ℕ
+tableAfter x out = contentAfter (suffixTableAnswer x (length out)) (suffixTableOf decided-default x) out
+
+-- FIRST of the left forest.
+abbrev pub leftFirst : List ℕ → List ℕ
+leftFirst x = leftFirstOf decided-default x (factorizationOf decided-default x)
+
+-- PAST of the left forest.
+abbrev pub leftPast : List ℕ → List ℕ
+leftPast x = leftPastOf decided-default x (factorizationOf decided-default x)
+
+-- What `left_forest` leaves in its first buffer, by its contract.
+abbrev pub firstAfter : List ℕ → List ℕ → List ℕ → List ℕ
+firstAfter x first past = contentAfter (leftForestAnswer x (length first) (length past)) (leftFirst x) first
+
+-- And in its second.
+abbrev pub pastAfter : List ℕ → List ℕ → List ℕ → List ℕ
+pastAfter x first past = contentAfter (leftForestAnswer x (length first) (length past)) (leftPast x) past
+
+-- One buffer that is long enough.
+module _ (x : List ℕ) (sized : Sized (length x)) (out : List ℕ) (room : length x ≤ length out) where
+  accepts : (count : ℕ) → lengthChecked (length x) (outputChecked (length x) (length out) (acceptedWith count)) ≡ acceptedWith count
+  accepts count =
+      sized-passes (length x) sized (outputChecked (length x) (length out) (acceptedWith count)) ∙
+      output-passes (length x) (acceptedWith count) (length out) room
+
+  -- `factorization` refuses no text; the count is the number of factors.
+  pub factorization-accepts : factorizationAnswer x (length out) ≡ acceptedWith (length (factorizationOf decided-default x))
+  factorization-accepts = accepts (length (factorizationOf decided-default x))
+
+  -- As many places as there are factors hold their starts.
+  pub factorization-written : IsFactorization defaultOrder x (take (length (factorizationOf decided-default x)) (startsAfter x out))
+  factorization-written =
+      let l = factorizationOf decided-default x in
+      rw (written-first (factorizationAnswer x (length out)) (length l) (length l) l out factorization-accepts refl)
+      (factorizationOf-holds decided-default x)
+
+  -- The others hold what they held before.
+  pub factorization-rest :
+      let k = length (factorizationOf decided-default x) in drop k (startsAfter x out) ≡ drop k out
+  factorization-rest =
+      let l = factorizationOf decided-default x in
+      written-rest (factorizationAnswer x (length out)) (length l) (length l) l out factorization-accepts refl
+
+  -- `suffix_table` refuses no text; the count is n.
+  pub suffix-table-accepts : suffixTableAnswer x (length out) ≡ acceptedWith (length x)
+  suffix-table-accepts = accepts (length x)
+
+  -- The first n places hold the Lyndon suffix table of the text.
+  pub suffix-table-written : IsSuffixTable defaultOrder x (take (length x) (tableAfter x out))
+  suffix-table-written =
+      let h = suffixTableOf-holds decided-default x in
+      rw (written-first (suffixTableAnswer x (length out)) (length x) (length x) (suffixTableOf decided-default x) out suffix-table-accepts (h .size)) h
+
+  -- The others hold what they held before.
+  pub suffix-table-rest : drop (length x) (tableAfter x out) ≡ drop (length x) out
+  suffix-table-rest =
+      written-rest (suffixTableAnswer x (length out)) (length x) (length x) (suffixTableOf decided-default x) out suffix-table-accepts
+      (suffixTableOf-holds decided-default x .size)
+
+-- `left_forest`, with two buffers that are long enough.
+module _ (x : List ℕ) (sized : Sized (length x)) (first past : List ℕ) (first-room : length x ≤ length first) (past-room : length x ≤ length past) where
+  is-forest : IsLeftForest defaultOrder x (leftFirst x) (leftPast x)
+  is-forest = leftForestOf-holds decided-default x (factorizationOf-holds decided-default x)
+
+  -- It refuses no text; the count is n.
+  pub left-forest-accepts : leftForestAnswer x (length first) (length past) ≡ acceptedWith (length x)
+  left-forest-accepts =
+      let n = length x in
+      sized-passes n sized (outputChecked n (length first) (outputChecked n (length past) (acceptedWith n))) ∙
+      output-passes n (outputChecked n (length past) (acceptedWith n)) (length first) first-room ∙ output-passes n (acceptedWith n) (length past) past-room
+
+  -- The first n places of both buffers hold the left forest of the text.
+  pub left-forest-written : IsLeftForest defaultOrder x (take (length x) (firstAfter x first past)) (take (length x) (pastAfter x first past))
+  left-forest-written =
+      let r = leftForestAnswer x (length first) (length past) in
+      rw (
+        written-first r (length x) (length x) (leftFirst x) first left-forest-accepts (is-forest .first-size),
+        written-first r (length x) (length x) (leftPast x) past left-forest-accepts (is-forest .past-size),
+      )
+      is-forest
+
+  -- The others hold what they held before.
+  pub left-forest-rest :
+      (drop (length x) (firstAfter x first past) ≡ drop (length x) first) × (drop (length x) (pastAfter x first past) ≡ drop (length x) past)
+  left-forest-rest =
+      let r = leftForestAnswer x (length first) (length past) in (
+        written-rest r (length x) (length x) (leftFirst x) first left-forest-accepts (is-forest .first-size),
+        written-rest r (length x) (length x) (leftPast x) past left-forest-accepts (is-forest .past-size),
+      )
