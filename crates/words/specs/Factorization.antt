@@ -18,7 +18,7 @@ abbrev pub AllLyndon {ℓ κ} : {A : Type ℓ} → Letters {ℓ, κ} A → List 
 AllLyndon O [] = Unit {ℓ ⊔ κ}
 AllLyndon O (u ∷ us) = Lyndon O u × AllLyndon O us
 
--- u0 ≥ u1 ≥ ..: no word is smaller than the one after it.
+-- u0 ≥ u1 ≥ ..: no word is smaller than the one after it. Words are totally ordered, so "not smaller" is "≥" (`Laws/WordOrder`).
 abbrev pub NeverRising {ℓ κ} : {A : Type ℓ} → Letters {ℓ, κ} A → List (List A) → Type (ℓ ⊔ κ)
 NeverRising O [] = Unit {ℓ ⊔ κ}
 NeverRising O (u ∷ []) = Unit {ℓ ⊔ κ}

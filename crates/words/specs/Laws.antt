@@ -1,6 +1,7 @@
 pub mod Numbers
 pub mod Letters
 pub mod Word
+pub mod WordOrder
 pub mod Lyndon
 pub mod Position
 pub mod SpanLyndon
@@ -18,6 +19,7 @@ pub mod ForestUnique
 pub mod StandardFactorization
 pub mod ForestPositions
 pub mod Runs
+pub mod LargerPeriods
 pub mod RunRenaming
 pub mod Different
 pub mod Periods
@@ -33,6 +35,7 @@ pub mod LeftForest
 pub mod ValidSpans
 pub mod Pigeonhole
 pub mod ValidText
+pub mod SimpleAssign
 pub mod ArrayValid
 pub mod ArrayFactors
 pub mod ArrayForest

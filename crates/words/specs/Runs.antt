@@ -14,8 +14,9 @@ SameLetter x i k = getElem? x i ≡ getElem? x k
 abbrev pub HasPeriod {ℓ} : {A : Type ℓ} → List A → ℕ → ℕ → ℕ → Type ℓ
 HasPeriod x s e p = (i : ℕ) → s ≤ i → i + p < e → SameLetter x i (i + p)
 
--- The span from s to e is a run of smallest period p (document 002, "Runs (1)"; document 01: "a span whose smallest period p has 2p ≤
--- its length, and which has no neighbour letter that continues period p").
+-- The span from s to e is a run of smallest period p (document 01: "a span whose smallest period p has 2p ≤ its length, and which has no
+-- neighbour letter that continues period p"). `Laws/LargerPeriods` shows that this is document 002's run ("Runs (1)"), which with a
+-- neighbour letter has only larger periods.
 pub record Run {ℓ} {A : Type ℓ} (x : List A) (s e p : ℕ) : Type ℓ where
   pub positive : 0 < p
   pub twice : s + (p + p) ≤ e

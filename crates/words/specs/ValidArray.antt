@@ -52,11 +52,11 @@ abbrev pub holding : List ℕ → ℕ → ℕ → ℕ
 holding a i zero = 0
 holding a i (suc k) = holding a i k + one (ltb i (k + getD a k 0))
 
--- The letter written at i (document 01, "The calls"; document 003, Figure 1, whose letters count from 1): the number of earlier
--- positions whose span holds i, plus n − i − entry i.
+-- The letter written at i (document 01, "The calls"): the number of earlier positions whose span holds i, plus n − i − entry i.
+-- `Laws/SimpleAssign` shows that it is the letter that document 003's Figure 1 gives to i, less 1, since letters count from 1 there.
 abbrev pub letterFor : List ℕ → ℕ → ℕ
 letterFor a i = holding a i i + (length a - (i + getD a i 0))
 
--- The text written for a valid array (document 01, "The calls"; document 003, Figure 1, with letters from 0).
+-- The text written for a valid array (document 01, "The calls").
 abbrev pub textFor : List ℕ → List ℕ
 textFor a = tabulate (letterFor a) 0 (length a)

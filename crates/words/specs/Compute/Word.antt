@@ -3,11 +3,12 @@
 use mathlib.Core.Path.{_≡_, refl}
 use mathlib.Core.Logic.{_↔_, inl, inr}
 use mathlib.Core.Bool.{Bool, true, false}
-use mathlib.Core.List.{List, [], _∷_, _++_, cons≢nil}
+use mathlib.Core.List.{List, [], _∷_, _++_}
 use lib.Dec.{T}
 use Rattle.words.specs.Letters.{Letters, Smaller}
 use Rattle.words.specs.Decided.{Comparison, below, same, above, Means, Decided}
 use Rattle.words.specs.Word.{Less}
+use Rattle.words.specs.Laws.WordOrder.{nil-less, head-less, cons-less}
 
 -- u is smaller than v, as a test.
 abbrev pub lessb {ℓ κ} : {A : Type ℓ} {O : Letters {ℓ, κ} A} → Decided O → List A → List A → Bool
@@ -15,29 +16,6 @@ lessb D [] [] = false
 lessb D [] (b ∷ v) = true
 lessb D (a ∷ u) [] = false
 lessb D (a ∷ u) (b ∷ v) = elim (D .compare a b) [ below ↦ true | same ↦ lessb D u v | above ↦ false ]
-
-module _ {ℓ κ} {A : Type ℓ} {O : Letters {ℓ, κ} A} where
-  nil-less : (b : A) (v : List A) → Less O [] (b ∷ v)
-  nil-less b v = inr (record { rest = b ∷ v; more = cons≢nil; joined = refl })
-
-  head-less : {a b : A} (u v : List A) → Smaller O a b → Less O (a ∷ u) (b ∷ v)
-  head-less {a} {b} u v h =
-      inl (record { r = []; s = u; t = v; a = a; b = b; left = refl; right = refl; smaller = h })
-
-  cons-less : {a b : A} {u v : List A} → a ≡ b → Less O u v → Less O (a ∷ u) (b ∷ v)
-  cons-less {a} e (inl h) =
-      inl
-      (record {
-        r = a ∷ h .r;
-        s = h .s;
-        t = h .t;
-        a = h .a;
-        b = h .b;
-        left = cc (h .left);
-        right = cc (h .right);
-        smaller = h .smaller;
-      })
-  cons-less e (inr h) = inr (record { rest = h .rest; more = h .more; joined = cc (h .joined) })
 
 module _ {ℓ κ} {A : Type ℓ} {O : Letters {ℓ, κ} A} (D : Decided O) where
   -- A letter compared with itself is the same.
