@@ -30,8 +30,9 @@ pub record Tree {ρ} (Rule : ℕ → ℕ → ℕ → Type ρ) (first past : List
   pub tree : CutTree Rule a b
   pub recorded : Recorded first past tree
 
--- FIRST and PAST are the forest of x under a rule of cutting (document 01, "The calls"): one tree for each factor, which ends where the
--- next one starts, the last at the end of the text.
+-- FIRST and PAST are the forest of x under a rule of cutting (document 01, "The calls"): one tree for each factor. Factor k starts at
+-- entry k of the starts and ends where the next one starts; for the last factor there is no next start, and reading past the end of the
+-- list gives the number written last in `getD factor-starts (suc k) (length x)`: the end of the text.
 pub record IsForest {ℓ κ ρ} {A : Type ℓ} (O : Letters {ℓ, κ} A) (Rule : ℕ → ℕ → ℕ → Type ρ) (x : List A) (first past : List ℕ) : Type (ℓ ⊔ κ ⊔ ρ) where
   pub first-size : length first ≡ length x
   pub past-size : length past ≡ length x
