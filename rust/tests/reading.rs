@@ -45,7 +45,7 @@ fn is_name(word: &str) -> bool {
 /// Whether a file declares the name: a line that begins with it after marks, or lists it as a constructor or a field.
 fn declares(text: &str, name: &str) -> bool {
     const MARKS: &[&str] =
-        &["pub", "abbrev", "unfoldable", "record", "data", "fn", "struct", "enum", "const", "mod", "extern", "\"C\"", "pub(crate)"];
+        &["pub", "abbrev", "unfoldable", "record", "data", "fn", "struct", "enum", "const", "mod", "extern", "\"C\"", "crate"];
     text.lines().any(|line| {
         let line = line.split("--").next().unwrap();
         let words: Vec<&str> = line.split(|c: char| c.is_whitespace() || "(){}<>:,;=".contains(c)).filter(|w| !w.is_empty()).collect();

@@ -13,8 +13,9 @@ use Rattle.words.specs.Runs.{Entry}
 use Rattle.words.specs.Laws.SpanLyndon.{letters}
 use Rattle.words.specs.Laws.Position.{Agree}
 use Rattle.words.specs.Laws.SuffixOrder.{NextSmaller, agree-less}
-use Rattle.words.specs.Laws.RunListing.{Extent, ListedAt, extent-from, repeated-not-listed, agreement-short as root-agreement}
-use Rattle.words.specs.Laws.RunMarks.{ListedEntry, endBound, end-below, entry-listed, unlisted, entryOf as runEntry}
+use Rattle.words.specs.Laws.RunExtent.{Extent, extent-from}
+use Rattle.words.specs.Laws.RunListing.{ListedAt, repeated-not-listed, root-agreement-short}
+use Rattle.words.specs.Laws.RunMarks.{ListedEntry, endBound, end-below, entry-listed, unlisted, runEntry}
 use Rattle.words.specs.Laws.EachRunOnce.{ListsDown, lists-none, lists-skip, lists-one}
 use Rattle.sorting.specs.Exchange.{put, length-put}
 use Rattle.array.specs.CommonPrefix.{commonPrefix, Agreement, commonPrefix-agreement}
@@ -240,7 +241,7 @@ module _ (order : ℕ) (x before buf : List ℕ) (i : ℕ) (r : Joined) (w : Joi
       longer l (yes q) = equal l q (decLt (i + k) j)
       longer l (no q) =
           let a : k < j - i =
-          root-agreement (orderOf order) (letters 0 x) (length x) i (j - i) v k
+          root-agreement-short (orderOf order) (letters 0 x) (length x) i (j - i) v k
           (subst (λ (m : ℕ). NextSmaller (orderOf order) (letters 0 x) (length x) i m) (sym on) (w .next))
           (subst (λ (m : ℕ). NextSmaller (orderOf order) (letters 0 x) (length x) m (m + v)) (sym on) (entry-next order x j l))
           q (subst (λ (m : ℕ). Agree (letters 0 x) i m k) (sym on) (exact .agree)) (omega (arith, on, exact .within)) in

@@ -15,7 +15,7 @@ use Rattle.words.specs.Laws.RunMarks.{endBound}
 use Rattle.words.specs.Laws.EachRunOnce.{ListsDown, EachRunOnce, each-run-once, rearranged-run-list}
 use Rattle.words.specs.Laws.Runs.{run-list-unique, numbers-length}
 use Rattle.words.specs.Compute.LyndonArray.{arrayOf, arrayOf-holds}
-use Rattle.words.specs.Compute.Runs.{runsOf-holds}
+use Rattle.words.specs.Laws.RunSearch.{runsOf-holds}
 use Rattle.answer.specs.Checks.{written}
 use Rattle.sorting.specs.Exchange.{put}
 use Rattle.sorting.specs.Triples.{AfterSort}

@@ -13,7 +13,7 @@ use Rattle.words.specs.Equality.{decided-number-equality}
 use Rattle.words.specs.LyndonArray.{IsLyndonArray}
 use Rattle.words.specs.Runs.{IsRunList, numbers}
 use Rattle.words.specs.Compute.LyndonArray.{arrayOf, arrayOf-holds}
-use Rattle.words.specs.Compute.Runs.{runsOf-holds}
+use Rattle.words.specs.Laws.RunSearch.{runsOf-holds}
 use Rattle.words.specs.Laws.Runs.{numbers-length}
 use Rattle.answer.specs.Answers.{acceptedWith}
 use Rattle.answer.specs.Limits.{runListLength, workLength}

@@ -8,7 +8,8 @@ use lib.ListN.{length, getD, take}
 use lib.Seq.{getD-take, length-take-le}
 use Rattle.words.specs.LeftForest.{IsLeftForest}
 use Rattle.words.specs.Compute.Factorization.{factorizationOf, factorizationOf-holds}
-use Rattle.words.specs.Compute.LeftForest.{leftFirstOf, leftPastOf, leftForestOf-holds}
+use Rattle.words.specs.Compute.LeftForest.{leftFirstOf, leftPastOf}
+use Rattle.words.specs.Laws.ForestRecords.{leftForestOf-holds}
 use Rattle.words.specs.Laws.SpanLyndon.{letters}
 use Rattle.words.specs.Laws.LongestEnding.{LongestEnding, longest-ending}
 use Rattle.words.specs.Laws.LeftForest.{Uncrossed, LeftRecords, longest-nested, records-left-forest}

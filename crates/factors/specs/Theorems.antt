@@ -10,7 +10,8 @@ use Rattle.words.specs.SuffixTable.{IsSuffixTable}
 use Rattle.words.specs.LeftForest.{IsLeftForest}
 use Rattle.words.specs.Compute.Factorization.{factorizationOf, factorizationOf-holds}
 use Rattle.words.specs.Compute.SuffixTable.{suffixTableOf, suffixTableOf-holds}
-use Rattle.words.specs.Compute.LeftForest.{leftFirstOf, leftPastOf, leftForestOf-holds}
+use Rattle.words.specs.Compute.LeftForest.{leftFirstOf, leftPastOf}
+use Rattle.words.specs.Laws.ForestRecords.{leftForestOf-holds}
 use Rattle.answer.specs.Answers.{acceptedWith}
 use Rattle.answer.specs.Checks.{lengthChecked, outputChecked, contentAfter}
 use Rattle.answer.specs.CheckLaws.{output-passes}

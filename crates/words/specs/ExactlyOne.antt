@@ -17,9 +17,11 @@ use Rattle.words.specs.Runs.{IsRunList}
 use Rattle.words.specs.Compute.LyndonArray.{arrayOf, arrayOf-holds}
 use Rattle.words.specs.Compute.Factorization.{factorizationOf, factorizationOf-holds}
 use Rattle.words.specs.Compute.SuffixTable.{suffixTableOf, suffixTableOf-holds}
-use Rattle.words.specs.Compute.LeftForest.{leftFirstOf, leftPastOf, leftForestOf-holds}
+use Rattle.words.specs.Compute.LeftForest.{leftFirstOf, leftPastOf}
+use Rattle.words.specs.Laws.ForestRecords.{leftForestOf-holds}
 use Rattle.words.specs.Compute.RightForest.{rightFirstOf, rightPastOf, rightForestOf-holds}
-use Rattle.words.specs.Compute.Runs.{runsOf, runsOf-holds}
+use Rattle.words.specs.Compute.Runs.{runsOf}
+use Rattle.words.specs.Laws.RunSearch.{runsOf-holds}
 use Rattle.words.specs.Compute.ValidArray.{HasVerdict, checkArray, checkArray-holds}
 use Rattle.words.specs.Laws.Lyndon.{LyndonTest}
 use Rattle.words.specs.Laws.Existence.{test-irrefutable, tested-array, tested-factorization, tested-suffix-table, tested-right-forest, tested-left-forest}

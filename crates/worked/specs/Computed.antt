@@ -16,7 +16,8 @@ use Rattle.words.specs.Compute.LyndonArray.{arrayOf, arrayOf-holds}
 use Rattle.words.specs.Compute.Factorization.{factorizationOf, factorizationOf-holds}
 use Rattle.words.specs.Compute.SuffixTable.{suffixTableOf, suffixTableOf-holds}
 use Rattle.words.specs.Compute.RightForest.{rightFirstOf, rightPastOf, rightForestOf-holds}
-use Rattle.words.specs.Compute.LeftForest.{leftFirstOf, leftPastOf, leftForestOf-holds}
+use Rattle.words.specs.Compute.LeftForest.{leftFirstOf, leftPastOf}
+use Rattle.words.specs.Laws.ForestRecords.{leftForestOf-holds}
 use Rattle.words.specs.Compute.ValidArray.{fits, fault, HasVerdict, checkArray, checkArray-holds}
 use Rattle.words.specs.ArrayTheorems.{TextWith, passed-exactly}
 use Rattle.answer.specs.declared.Answer.{Answer}
@@ -25,7 +26,7 @@ use Rattle.answer.specs.Answers.{refusedFor, number, value}
 use Rattle.answer.specs.AcceptedContent.{Sized}
 use Rattle.from_array.specs.Answers.{verdictAnswer, arrayChecked}
 use Rattle.from_array.specs.Theorems.{reconstruct-checked, reconstruct-accepts-exactly, written-text, right-forest-checked}
-use Rattle.worked.specs.Example.{Example, array, factors, suffix-table, right-forest, left-forest, text, refused, Says, Holds, AllHold}
+use Rattle.worked.specs.Example.{Example, array, factors, suffix-table, right-forest, left-forest, text, refused, Says, ExampleHolds, AllHold}
 
 -- The computed value is the one that the example gives.
 abbrev pub Computed : Example → Type 0
@@ -38,7 +39,7 @@ Computed (left-forest x f p) =
 Computed (text a x) = Sized (length a) × (checkArray a ≡ fits) × (textFor a ≡ x) × (arrayOf decided-rising x ≡ a)
 Computed (refused a r p) = Sized (length a) × (f : Fault) × (checkArray a ≡ fault f p) × (number (refusedFor (reasonFor f) p) ≡ r)
 
-pub computed-holds : (e : Example) → Computed e → Holds e
+pub computed-holds : (e : Example) → Computed e → ExampleHolds e
 computed-holds (array o x a) h = subst (IsLyndonArray (orderOf o) x) h (arrayOf-holds (decided-order o) x)
 computed-holds (factors x s) h = subst (IsFactorization rising x) h (factorizationOf-holds decided-rising x)
 computed-holds (suffix-table x t) h = subst (IsSuffixTable rising x) h (suffixTableOf-holds decided-rising x)

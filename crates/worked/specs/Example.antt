@@ -33,7 +33,7 @@ pub record Says (answer : Answer) (r p : ℕ) : Type 0 where
 
 -- An array is refused with a number at a position: its first fault stands there, and with buffers that are long enough both calls that
 -- take an array answer with that number and position.
-pub record RefusedAt (a : List ℕ) (r p : ℕ) : Type 0 where
+pub record ArrayRefused (a : List ℕ) (r p : ℕ) : Type 0 where
   pub fault : Fault
   pub first : FirstFault a fault p
   pub reconstructed : (text : List ℕ) → length a ≤ length text → Says (reconstructAnswer a (length text)) r p
@@ -49,16 +49,16 @@ pub record Reconstructed (a x : List ℕ) : Type 0 where
   pub accepted : (text : List ℕ) → length a ≤ length text → reconstructAnswer a (length text) ≡ acceptedWith (length a)
   pub left : (text : List ℕ) → length a ≤ length text → take (length a) (textAfter a text) ≡ x
 
-abbrev pub Holds : Example → Type 0
-Holds (array o x a) = IsLyndonArray (orderOf o) x a
-Holds (factors x s) = IsFactorization rising x s
-Holds (suffix-table x t) = IsSuffixTable rising x t
-Holds (right-forest x f p) = IsRightForest rising x f p
-Holds (left-forest x f p) = IsLeftForest rising x f p
-Holds (text a x) = Reconstructed a x
-Holds (refused a r p) = RefusedAt a r p
+abbrev pub ExampleHolds : Example → Type 0
+ExampleHolds (array o x a) = IsLyndonArray (orderOf o) x a
+ExampleHolds (factors x s) = IsFactorization rising x s
+ExampleHolds (suffix-table x t) = IsSuffixTable rising x t
+ExampleHolds (right-forest x f p) = IsRightForest rising x f p
+ExampleHolds (left-forest x f p) = IsLeftForest rising x f p
+ExampleHolds (text a x) = Reconstructed a x
+ExampleHolds (refused a r p) = ArrayRefused a r p
 
 -- Every example of a table holds.
 abbrev pub AllHold : List Example → Type 0
 AllHold [] = Unit {0}
-AllHold (e ∷ es) = Holds e × AllHold es
+AllHold (e ∷ es) = ExampleHolds e × AllHold es

@@ -14,7 +14,8 @@ use Rattle.words.specs.Laws.SpanLyndon.{letters}
 use Rattle.words.specs.Laws.Compared.{AllCompared}
 use Rattle.words.specs.Laws.Runs.{run-period-unique, NotLater, InOrder, entry-equal}
 use Rattle.words.specs.Laws.Different.{Different, different-append, different-snoc, different-rearranged}
-use Rattle.words.specs.Laws.RunListing.{listed-once, listed-one-order}
+use Rattle.words.specs.Laws.RunListing.{listed-once}
+use Rattle.words.specs.Laws.RunOrders.{listed-one-order}
 use Rattle.words.specs.Laws.RunMarks.{ListedEntry, listed-entry-unique, listed-is-run, RunMark, run-mark, runs-fewer}
 
 -- A position from i on lists the entry r.

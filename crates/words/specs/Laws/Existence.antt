@@ -23,7 +23,7 @@ use Rattle.words.specs.ArrayForest.{forestFirst, forestPast}
 use Rattle.words.specs.ArrayFactors.{factorStarts}
 use Rattle.words.specs.Compute.LyndonArray.{greatest-array}
 use Rattle.words.specs.Compute.SuffixTable.{least-table}
-use Rattle.words.specs.Compute.LeftForest.{forestOf-holds, greatest-left-cuts}
+use Rattle.words.specs.Laws.ForestRecords.{forestOf-holds, greatest-left-cuts}
 use Rattle.words.specs.Laws.Lyndon.{LyndonTest}
 use Rattle.words.specs.Laws.Position.{SpanLyndon}
 use Rattle.words.specs.Laws.SpanLyndon.{letters, lyndon-span, span-lyndon}

@@ -12,7 +12,8 @@ use Rattle.words.specs.Decided.{Decided}
 use Rattle.words.specs.CutTree.{CutTree, letter, cut, Recorded, Tree}
 use Rattle.words.specs.LeftForest.{LeftCut, IsLeftForest}
 use Rattle.words.specs.Compute.Factorization.{factorizationOf, factorizationOf-holds}
-use Rattle.words.specs.Compute.LeftForest.{leftCutAt, greatest-left-cuts}
+use Rattle.words.specs.Compute.LeftForest.{leftCutAt}
+use Rattle.words.specs.Laws.ForestRecords.{greatest-left-cuts}
 use Rattle.words.specs.Compute.Lyndon.{lyndon-test}
 use Rattle.words.specs.Laws.Position.{SpanLyndon}
 use Rattle.words.specs.Laws.SpanLyndon.{letters, lyndon-span, span-lyndon}

@@ -15,7 +15,8 @@ use Rattle.words.specs.Equality.{decided-number-equality}
 use Rattle.words.specs.Runs.{SameLetter, Entry, IsRunList}
 use Rattle.words.specs.Tabulate.{tabulate}
 use Rattle.words.specs.Compute.Search.{leastFrom, LeastFrom, leastFrom-holds}
-use Rattle.words.specs.Compute.Runs.{runsOf, runsOf-holds}
+use Rattle.words.specs.Compute.Runs.{runsOf}
+use Rattle.words.specs.Laws.RunSearch.{runsOf-holds}
 use Rattle.words.specs.Laws.Numbers.{least-unique}
 use Rattle.words.specs.Laws.Tabulate.{length-tabulate, getD-tabulate}
 use Rattle.words.specs.Laws.Compared.{all-irrefutable}

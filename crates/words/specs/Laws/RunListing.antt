@@ -1,28 +1,18 @@
--- Every run is listed at one position under one of the two orders: at its last Lyndon root, whose next smaller suffix is one period on.
+-- A run is listed at its last Lyndon root, whose next smaller suffix is one period on.
 -- Assumes nothing.
 use mathlib.Core.Path.{_≡_, sym, ap, subst, _∙_}
-use mathlib.Core.Logic.{_⊎_, inl, inr}
-use Prim.Native.Nat.{ℕ, suc, _+_, _-_, _<_, _≤_}
+use Prim.Native.Nat.{ℕ, _+_, _-_, _<_, _≤_}
 use native.Mathlib.Omega.{arith}
-use native.Mathlib.Decide.{decLt, ℕ-discrete}
+use native.Mathlib.Decide.{decLt}
 use Rattle.words.specs.Letters.{Letters, Smaller, reversed}
-use Rattle.words.specs.Decided.{Comparison, below, same, above, Means, turned, turned-means}
+use Rattle.words.specs.Decided.{below, same, turned, turned-means}
 use Rattle.words.specs.Laws.Position.{Agree, BelowWithin}
 use Rattle.words.specs.Laws.SuffixOrder.{SuffixLess, ends, parts, NextSmaller, suffix-cancel, agree-sym}
 use Rattle.words.specs.Laws.NextSmaller.{next-lyndon, next-unique, next-nests, lyndon-next}
 use Rattle.words.specs.Laws.Compared.{AllCompared}
 use Rattle.words.specs.Laws.Periods.{SpanPeriod, SpanRun}
 use Rattle.words.specs.Laws.RunRoots.{lyndon-carried, LastRoot, last-root}
-
--- How far period p goes around i: from s to e, and no letter further, letters at distance p are equal.
-pub record Extent {ℓ} {A : Type ℓ} (x : ℕ → A) (n i s e p : ℕ) : Type ℓ where
-  pub low : s ≤ i
-  pub high : i + p ≤ e
-  pub inside : e ≤ n
-  pub left : (t : ℕ) → s ≤ t → t < i → x t ≡ x (t + p)
-  pub right : (t : ℕ) → i ≤ t → t + p < e → x t ≡ x (t + p)
-  pub left-stops : (t : ℕ) → s ≡ suc t → ¬ (x t ≡ x (t + p))
-  pub right-stops : (t : ℕ) → e ≡ t + p → e < n → ¬ (x t ≡ x e)
+use Rattle.words.specs.Laws.RunExtent.{Extent, extent-unique}
 
 -- Position i lists the span from s to e with period p: its next smaller suffix is p letters on, the span is as far as period p goes
 -- around it and holds two periods, i is its last root, and its end is below bound.
@@ -38,53 +28,6 @@ pub data Falls {ℓ κ} {A : Type ℓ} (O : Letters {ℓ, κ} A) (x : ℕ → A)
   at-end : e ≡ n → Falls O x n e p
   by-letter : e < n → (t : ℕ) → e ≡ t + p → Smaller O (x e) (x t) → Falls O x n e p
 
-module _ {ℓ} {A : Type ℓ} (x : ℕ → A) (n : ℕ) where
-  -- The extent, from the agreement k of the suffixes at i and i + p, and from the equal letters before them down to s.
-  pub extent-from : (i p k s : ℕ) → i + p + k ≤ n → Agree x i (i + p) k → (i + p + k < n → ¬ (x (i + k) ≡ x (i + p + k))) → s ≤ i →
-      ((t : ℕ) → s ≤ t → t < i → x t ≡ x (t + p)) → ((t : ℕ) → s ≡ suc t → ¬ (x t ≡ x (t + p))) → Extent x n i s (i + p + k) p
-  extent-from i p k s h g stop l left left-stops =
-      record {
-        low = l;
-        high = omega arith;
-        inside = h;
-        left = left;
-        right =
-            λ t a b.
-            let u : i + (t - i) ≡ t = omega arith in
-            let v : i + p + (t - i) ≡ t + p = omega arith in
-            sym (ap x u) ∙ g (t - i) (omega arith) ∙ ap x v;
-        left-stops = left-stops;
-        right-stops =
-            λ t a b q.
-            let u : i + k ≡ t = omega arith in
-            stop b (ap x u ∙ q);
-      }
-
-  starts-no-later : (i s e p s′ e′ : ℕ) → Extent x n i s e p → Extent x n i s′ e′ p → s′ ≤ s
-  starts-no-later i s e p s′ e′ m m′ = go (decLt s s′)
-    where
-      go : Dec (s < s′) → s′ ≤ s
-      go (yes l) = absurd (m′ .left-stops (s′ - 1) (omega arith) (m .left (s′ - 1) (omega arith) (omega (arith, m′ .low))))
-      go (no l) = omega (arith, l)
-
-  ends-no-later : (i s e p s′ e′ : ℕ) → Extent x n i s e p → Extent x n i s′ e′ p → e′ ≤ e
-  ends-no-later i s e p s′ e′ m m′ = go (decLt e e′)
-    where
-      go : Dec (e < e′) → e′ ≤ e
-      go (yes l) =
-          let c : e - p + p ≡ e = omega (arith, m .high) in
-          absurd
-          (m .right-stops (e - p) (sym c) (omega (arith, m′ .inside))
-          (m′ .right (e - p) (omega (arith, m .high)) (omega arith) ∙ ap x c))
-      go (no l) = omega (arith, l)
-
-  -- A period has one extent around a position.
-  pub extent-unique : (i s e p s′ e′ : ℕ) → Extent x n i s e p → Extent x n i s′ e′ p → (s ≡ s′) × (e ≡ e′)
-  extent-unique i s e p s′ e′ m m′ = (
-    omega (arith, starts-no-later i s e p s′ e′ m m′, starts-no-later i s′ e′ p s e m′ m),
-    omega (arith, ends-no-later i s e p s′ e′ m m′, ends-no-later i s′ e′ p s e m′ m),
-  )
-
 module _ {ℓ κ} {A : Type ℓ} (O : Letters {ℓ, κ} A) (x : ℕ → A) (n : ℕ) where
   -- A Lyndon word that stands at its next smaller suffix again ends at a next smaller suffix there too.
   pub next-again : (i p : ℕ) → NextSmaller O x n i (i + p) → Agree x i (i + p) p → i + p + p ≤ n → NextSmaller O x n (i + p) (i + p + p)
@@ -93,9 +36,9 @@ module _ {ℓ κ} {A : Type ℓ} (O : Letters {ℓ, κ} A) (x : ℕ → A) (n : 
       (suffix-cancel O x n (i + p) i p (agree-sym x i (i + p) p g) h (w .inside) (w .drops))
 
   -- Where the next factor has another length, the suffixes agree on less than the factor.
-  pub agreement-short : (i p v k : ℕ) → NextSmaller O x n i (i + p) → NextSmaller O x n (i + p) (i + p + v) → ¬ (v ≡ p) →
+  pub root-agreement-short : (i p v k : ℕ) → NextSmaller O x n i (i + p) → NextSmaller O x n (i + p) (i + p + v) → ¬ (v ≡ p) →
       Agree x i (i + p) k → i + p + k ≤ n → k < p
-  agreement-short i p v k w m d g h = go (decLt k p)
+  root-agreement-short i p v k w m d g h = go (decLt k p)
     where
       go : Dec (k < p) → k < p
       go (yes l) = l
@@ -266,96 +209,3 @@ module _ {ℓ κ} {A : Type ℓ} (O : Letters {ℓ, κ} A) (x : ℕ → A) (n : 
   falls-listed compared bound s e p r f l =
       let w = last-root O x n s e p compared r in
       (w .0, root-listed bound s e p (w .0) r (w .1) f l)
-
-module _ {ℓ κ} {A : Type ℓ} (O : Letters {ℓ, κ} A) (x : ℕ → A) (n : ℕ) where
-  -- Every run is listed: under O where its end falls, otherwise under the reversed order.
-  pub run-listed : AllCompared O x n → (s e p : ℕ) → SpanRun x n s e p →
-      ((i : ℕ) × ListedAt O x n (suc n) i s e p) ⊎ ((i : ℕ) × ListedAt (reversed O) x n n i s e p)
-  run-listed compared s e p r = go (decLt e n)
-    where
-      t : ℕ
-      t = e - p
-
-      is : e ≡ t + p
-      is = omega (arith, r .twice)
-
-      under : Falls O x n e p → (i : ℕ) × ListedAt O x n (suc n) i s e p
-      under f = falls-listed O x n compared (suc n) s e p r f (omega (arith, r .inside))
-
-      by : e < n → (c : Comparison) → Means O c (x e) (x t) →
-          ((i : ℕ) × ListedAt O x n (suc n) i s e p) ⊎ ((i : ℕ) × ListedAt (reversed O) x n n i s e p)
-      by l below v = inl (under (by-letter l t is v))
-      by l same v = absurd (r .no-right t is l (sym (v .lower)))
-      by l above v =
-          inr
-          (falls-listed (reversed O) x n (reversed-compared O x n compared) n s e p r
-          (by-letter l t is (turned-means O above (x e) (x t) v)) l)
-
-      go : Dec (e < n) → ((i : ℕ) × ListedAt O x n (suc n) i s e p) ⊎ ((i : ℕ) × ListedAt (reversed O) x n n i s e p)
-      go (yes l) = let c = compared e t l (omega (arith, is)) in by l (c .0) (c .1)
-      go (no l) = inl (under (at-end (omega (arith, l, r .inside))))
-
-  -- A run that is listed under O is not listed under the reversed order.
-  pub listed-one-order : (bound i i′ s e p : ℕ) → ListedAt O x n bound i s e p → ¬ ListedAt (reversed O) x n n i′ s e p
-  listed-one-order bound i i′ s e p r r′ =
-      let t : ℕ = e - p in
-      let is : e ≡ t + p = omega (arith, r .twice) in
-      let v : Smaller O (x e) (x t) = listed-falls O x n bound i s e p r (r′ .early) t is in
-      let v′ : Smaller (reversed O) (x e) (x t) = listed-falls (reversed O) x n n i′ s e p r′ (r′ .early) t is in
-      O .not-both (x e) (x t) (v .0) (v .1, v′ .1)
-
-  -- Under one of the two orders the next smaller suffix is the next one.
-  next-at-once : (i p p′ : ℕ) → NextSmaller O x n i (i + p) → NextSmaller (reversed O) x n i (i + p′) → (p ≡ 1) ⊎ (p′ ≡ 1)
-  next-at-once i p p′ w w′ = go (decLt 1 p) (decLt 1 p′)
-    where
-      both : SuffixLess O x n i (suc i) → SuffixLess (reversed O) x n i (suc i) → ⊥
-      both (ends d a b g) v = omega arith
-      both (parts d a b g c) (ends d′ a′ b′ g′) = omega arith
-      both (parts d a b g c) (parts d′ a′ b′ g′ c′) = at (decLt d d′) (decLt d′ d)
-        where
-          at : Dec (d < d′) → Dec (d′ < d) → ⊥
-          at (yes l) m = c .0 (g′ d l)
-          at (no l) (yes m) = c′ .0 (g d′ m)
-          at (no l) (no m) =
-              let t : d′ ≡ d = omega (arith, l, m) in
-              let u : Smaller (reversed O) (x (i + d)) (x (suc i + d)) =
-              subst (λ (k : ℕ). Smaller (reversed O) (x (i + k)) (x (suc i + k))) t c′ in
-              O .not-both (x (i + d)) (x (suc i + d)) (c .0) (c .1, u .1)
-
-      go : Dec (1 < p) → Dec (1 < p′) → (p ≡ 1) ⊎ (p′ ≡ 1)
-      go (no l) m = inl (omega (arith, l, w .after))
-      go (yes l) (no m) = inr (omega (arith, m, w′ .after))
-      go (yes l) (yes m) = absurd (both (w .between (suc i) (omega arith) (omega arith)) (w′ .between (suc i) (omega arith) (omega arith)))
-
--- Of a run of period 1 and a run of a greater period, under any two orders, no position inside both is a root of both.
-single-letter-apart {ℓ κ} : {A : Type ℓ} (O Q : Letters {ℓ, κ} A) (x : ℕ → A) (n bound bound′ i s e p s′ e′ : ℕ) → 1 < p →
-    ListedAt O x n bound i s e p → ¬ ListedAt Q x n bound′ i s′ e′ 1
-single-letter-apart O Q x n bound bound′ i s e p s′ e′ l r r′ =
-    let k : ℕ = i - 1 in
-    let a : s < i = listed-after-start O x n bound i s e p r in
-    let a′ : s′ < i = listed-after-start Q x n bound′ i s′ e′ 1 r′ in
-    let w : BelowWithin O x i (i + (p - 1)) (i + p) =
-    next-lyndon O x n i (i + p) (r .next) .below (i + (p - 1)) (omega arith) (omega arith) in
-    let b : k + 1 ≡ i + w .offset = omega (arith, w .inside) in
-    let c : k + p ≡ i + (p - 1) + w .offset = omega (arith, w .inside) in
-    w .smaller .0
-    (sym (ap x b) ∙ sym (r′ .extent .left k (omega arith) (omega arith)) ∙ r .extent .left k (omega arith) (omega arith) ∙ ap x c)
-
-module _ {ℓ κ} {A : Type ℓ} (O : Letters {ℓ, κ} A) (x : ℕ → A) (n : ℕ) where
-  -- No position lists a run under O and another under the reversed order.
-  pub listed-one-each : (bound i s e p s′ e′ p′ : ℕ) → ListedAt O x n bound i s e p → ¬ ListedAt (reversed O) x n n i s′ e′ p′
-  listed-one-each bound i s e p s′ e′ p′ r r′ = go (next-at-once O x n i p p′ (r .next) (r′ .next)) (ℕ-discrete p p′)
-    where
-      unlike : ¬ (p ≡ p′) → (p ≡ 1) ⊎ (p′ ≡ 1) → ⊥
-      unlike d (inl h) =
-          single-letter-apart (reversed O) O x n n bound i s′ e′ p′ s e (omega (arith, d, r′ .next .after)) r′
-          (subst (λ (q : ℕ). ListedAt O x n bound i s e q) h r)
-      unlike d (inr h) =
-          single-letter-apart O (reversed O) x n bound n i s e p s′ e′ (omega (arith, d, r .next .after)) r
-          (subst (λ (q : ℕ). ListedAt (reversed O) x n n i s′ e′ q) h r′)
-
-      go : (p ≡ 1) ⊎ (p′ ≡ 1) → Dec (p ≡ p′) → ⊥
-      go h (no d) = unlike d h
-      go h (yes c) =
-          let u = extent-unique x n i s e p s′ e′ (r .extent) (subst (λ (q : ℕ). Extent x n i s′ e′ q) (sym c) (r′ .extent)) in
-          listed-one-order O x n bound i i s e p r (rw (u .0, u .1, c) r′)

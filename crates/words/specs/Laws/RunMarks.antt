@@ -15,15 +15,17 @@ use Rattle.words.specs.Laws.SuffixOrder.{NextSmaller}
 use Rattle.words.specs.Laws.Compared.{AllCompared, all-compared-irrefutable}
 use Rattle.words.specs.Laws.Different.{Different, marked-fewer}
 use Rattle.words.specs.Laws.Periods.{run-span, span-run}
-use Rattle.words.specs.Laws.RunListing.{Extent, ListedAt, measure-unique, listed-run, listed-unique, listed-after-start, listed-one-each, run-listed}
+use Rattle.words.specs.Laws.RunExtent.{Extent}
+use Rattle.words.specs.Laws.RunListing.{ListedAt, measure-unique, listed-run, listed-unique, listed-after-start}
+use Rattle.words.specs.Laws.RunOrders.{listed-one-each, run-listed}
 
 -- Position i lists the entry r.
 abbrev pub ListedEntry {ℓ κ} : {A : Type ℓ} → Letters {ℓ, κ} A → (ℕ → A) → ℕ → ℕ → ℕ → Entry → Type (ℓ ⊔ κ)
 ListedEntry O x n bound i r = ListedAt O x n bound i (r .start) (suc (r .last)) (r .period)
 
 -- The entry of a run from s to e of period p.
-abbrev pub entryOf : ℕ → ℕ → ℕ → Entry
-entryOf s e p = record { start = s; last = e - 1; period = p }
+abbrev pub runEntry : ℕ → ℕ → ℕ → Entry
+runEntry s e p = record { start = s; last = e - 1; period = p }
 
 -- The bound on ends for an order number: under order 0 runs may reach the end of the text, under order 1 not.
 abbrev pub endBound : ℕ → ℕ → ℕ
@@ -37,7 +39,7 @@ end-below (suc order) n e l = (λ h k. h, λ h. h (omega arith))
 
 module _ {ℓ κ} {A : Type ℓ} (O : Letters {ℓ, κ} A) (x : ℕ → A) (n bound : ℕ) where
   -- What a position lists, as an entry.
-  pub entry-listed : (i s e p : ℕ) → ListedAt O x n bound i s e p → ListedEntry O x n bound i (entryOf s e p)
+  pub entry-listed : (i s e p : ℕ) → ListedAt O x n bound i s e p → ListedEntry O x n bound i (runEntry s e p)
   entry-listed i s e p h =
       let c : e ≡ suc (e - 1) = omega (arith, h .next .after, h .extent .high) in
       subst (λ (k : ℕ). ListedAt O x n bound i s k p) c h
