@@ -2,3 +2,12 @@ pub mod Stores
 pub mod Positions
 pub mod Names
 pub mod Accepted
+pub mod Classes
+pub mod SequenceLetters
+pub mod Stands
+pub mod LineRows
+pub mod NameRows
+pub mod HeaderLine
+pub mod RecordRows
+pub mod Verdict
+pub mod OneVerdict
