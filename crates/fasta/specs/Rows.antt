@@ -27,6 +27,13 @@ pub record NameUpTo (x : List ℕ) (s p : ℕ) : Type 0 where
 abbrev pub NameOver : List ℕ → ℕ → Type 0
 NameOver x p = (p ≡ length x) ⊎ ((p < length x) × EndsName (getD x p 0))
 
+-- The name ends at p: "1 to 60 bytes from 33 to 126 (decimal), ended by space, tab, CR, LF or the end".
+pub record NameEnds (x : List ℕ) (s p : ℕ) : Type 0 where
+  pub up-to : NameUpTo x s p
+  pub over : NameOver x p
+  pub some : suc s < p
+  pub most : p ≤ suc s + maxName
+
 -- Row 10, where the name goes on up to p: "empty, a 61st byte, or a byte outside 33 to 126 that doesn't end it", with "that byte" or, of an
 -- empty name, the position behind the '>' ("1").
 pub data BadNameAt (x : List ℕ) (s p : ℕ) : Type 0 where

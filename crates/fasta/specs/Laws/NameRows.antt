@@ -1,6 +1,6 @@
 -- The pass over a name ends at the first position at which the condition of row 10 holds.
 -- Assumes nothing.
-use mathlib.Core.Path.{_≡_, refl}
+use mathlib.Core.Path.{_≡_, refl, subst}
 use mathlib.Core.Bool.{Bool, true, false, cond}
 use mathlib.Core.Logic.{inl, inr}
 use mathlib.Core.List.{List}
@@ -19,7 +19,7 @@ use Rattle.fasta.specs.declared.name.Name.the-variants.{Named, Misnamed}
 use Rattle.fasta.specs.Bytes.{nameByteOf}
 use Rattle.fasta.specs.Classes.{InName}
 use Rattle.fasta.specs.Name.{maxName, nameOver, nameStep, nameFrom}
-use Rattle.fasta.specs.Rows.{NameUpTo, NameOver, BadNameAt, empty, too-long, foreign}
+use Rattle.fasta.specs.Rows.{NameUpTo, NameOver, NameEnds, BadNameAt, empty, too-long, foreign}
 use Rattle.fasta.specs.Laws.Classes.{NameByteSays, name-byte-says, in-name-goes-on}
 
 -- The condition of row 10 at p.
@@ -28,11 +28,11 @@ NameRow x s p = NameUpTo x s p × BadNameAt x s p
 
 -- What is found of the name behind the '>' at s.
 abbrev pub NameSays : List ℕ → ℕ → Name → Type 0
-NameSays x s Named = (k : ℕ) → ¬ NameRow x s k
+NameSays x s Named = (p : ℕ) × NameEnds x s p
 NameSays x s (Misnamed p) = NameRow x s p × ((k : ℕ) → k < p → ¬ NameRow x s k)
 
 -- A byte of a name is not where it is over.
-in-name-not-over : (x : List ℕ) (p : ℕ) → p < length x → InName (getD x p 0) → ¬ NameOver x p
+pub in-name-not-over : (x : List ℕ) (p : ℕ) → p < length x → InName (getD x p 0) → ¬ NameOver x p
 in-name-not-over x p h i (inl e) = omega arith
 in-name-not-over x p h i (inr o) = in-name-goes-on (getD x p 0) i (o .1)
 
@@ -42,33 +42,27 @@ in-name-fits x s p h i l (u, empty e o) = in-name-not-over x p h i o
 in-name-fits x s p h i l (u, too-long e m j) = omega arith
 in-name-fits x s p h i l (u, foreign m n o) = n i
 
-module _ (x : List ℕ) (s p : ℕ) (some : suc s < p) (over : NameOver x p) where
-  -- Where a name of some bytes is over.
-  over-fits : ¬ NameRow x s p
-  over-fits (u, empty e o) = omega arith
-  over-fits (u, too-long e h i) = in-name-not-over x p h i over
-  over-fits (u, foreign h n m) = go over
+module _ {x : List ℕ} {s p : ℕ} (name : NameEnds x s p) where
+  -- Where a name ends.
+  end-fits : ¬ NameRow x s p
+  end-fits (u, empty e o) = omega (arith, name .some)
+  end-fits (u, too-long e h i) = in-name-not-over x p h i (name .over)
+  end-fits (u, foreign h n m) = go (name .over)
     where
       go : NameOver x p → ⊥
       go (inl e) = omega arith
       go (inr o) = m (o .1)
 
-  -- Behind the place where it is over.
-  behind-over : (k : ℕ) → p < k → ¬ NameRow x s k
-  behind-over k h r =
-      let l : k ≤ length x = r .0 .within in
-      in-name-not-over x p (omega arith) (r .0 .bytes p (omega arith) h) over
-
-  -- It is a name.
-  over-named : ((k : ℕ) → k < p → ¬ NameRow x s k) → (k : ℕ) → ¬ NameRow x s k
-  over-named clean k = go (decLt k p) (decLt p k)
+  -- Where a name ends, row 10 is not given.
+  pub named-fits : (k : ℕ) → ¬ NameRow x s k
+  named-fits k r = go (decLt k p) (decLt p k)
     where
-      go : Dec (k < p) → Dec (p < k) → ¬ NameRow x s k
-      go (yes l) d = clean k l
-      go (no n) (yes l) = behind-over k l
-      go (no n) (no m) =
-          let e : k ≡ p = omega arith in
-          rw e over-fits
+      go : Dec (k < p) → Dec (p < k) → ⊥
+      go (yes l) d =
+          in-name-fits x s k (omega (arith, name .up-to .within)) (name .up-to .bytes k (r .0 .behind) l) (omega (arith, name .most)) r
+      go (no n) (yes l) =
+          in-name-not-over x p (omega (arith, r .0 .within)) (r .0 .bytes p (name .up-to .behind) l) (name .over)
+      go (no n) (no m) = end-fits (subst (NameRow x s) (omega (arith, n, m)) r)
 
 -- What holds where the pass has come to p, after count bytes.
 pub record NameReached (x : List ℕ) (s p count : ℕ) : Type 0 where
@@ -85,7 +79,8 @@ over-says x s p count at over = go (eqb count 0) refl
     go true h = ((at .up-to, empty (omega (arith, at .place, eqb-true count 0 h)) over), at .clean)
     go false h =
         let n : ¬ (count ≡ 0) = eqb-false count 0 h in
-        over-named x s p (omega (arith, at .place)) over (at .clean)
+        let e : p ≡ suc s + count = at .place in
+        (p, record { up-to = at .up-to; over = over; some = omega arith; most = omega (arith, at .most) })
 
 module _ (x : List ℕ) (s p count : ℕ) (within : p < length x) (at : NameReached x s p count)
     (rest : NameReached x s (suc p) (suc count) → NameSays x s (nameFrom (suc p) (suc count) (drop (suc p) x))) where

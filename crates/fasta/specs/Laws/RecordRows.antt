@@ -17,11 +17,11 @@ use Rattle.fasta.specs.Bytes.{headerMark, startsWith}
 use Rattle.fasta.specs.Name.{nameFrom}
 use Rattle.fasta.specs.Lines.{linesFrom}
 use Rattle.fasta.specs.Reader.{nameChecked, linesStart, recordEnding}
-use Rattle.fasta.specs.Rows.{Stands, HeaderEnds, sequenceLetters, LineRow, unfit-byte, second-record, letter-too-many}
+use Rattle.fasta.specs.Rows.{Stands, NameEnds, HeaderEnds, sequenceLetters, LineRow, unfit-byte, second-record, letter-too-many}
 use Rattle.fasta.specs.Rows.{RecordRow, no-header, bad-name, in-lines, no-letters}
 use Rattle.fasta.specs.Verdict.{passOf, Earlier, by-pass, by-position, FirstOf}
 use Rattle.fasta.specs.Laws.Stands.{StartSays, start-says}
-use Rattle.fasta.specs.Laws.NameRows.{NameRow, NameSays, name-says}
+use Rattle.fasta.specs.Laws.NameRows.{NameRow, NameSays, named-fits, name-says}
 use Rattle.fasta.specs.Laws.LineRows.{CleanTo, EndingSays}
 use Rattle.fasta.specs.Laws.HeaderLine.{header-unique, LinesBegin, lines-begin, row-in-lines, header-lines-say}
 
@@ -48,10 +48,12 @@ record-pass (bad-name u b) = omega arith
 record-pass (in-lines h l) = omega (arith, line-pass l)
 record-pass (no-letters h n) = omega arith
 
--- A record that is read to the input's end p, with c letters: no row but the last can be given.
+-- A record that is read to the input's end p, with its name and c letters: no row but the last can be given.
 pub record ReadToEnd (x : List ℕ) (s c p : ℕ) : Type 0 where
   pub place : p ≡ length x
   pub no-earlier : (r : Reason) (k : ℕ) → passOf r < passOf NoLetters → ¬ RecordRow x s r k
+  pub name-end : ℕ
+  pub name : NameEnds x s name-end
   pub header-end : ℕ
   pub ends : HeaderEnds x s header-end
   pub counted : c ≡ length (sequenceLetters x header-end)
@@ -92,13 +94,13 @@ module _ (x : List ℕ) (s : ℕ) where
       none r p h (in-lines i l) = omega (arith, earlier-pass h, line-pass l)
       none r p h (no-letters i m) = omega (arith, earlier-pass h)
 
-  module _ (header : Stands x s headerMark) (named : (k : ℕ) → ¬ NameRow x s k) {e : ℕ} (ends : HeaderEnds x s e) where
+  module _ (header : Stands x s headerMark) {n : ℕ} (name : NameEnds x s n) {e : ℕ} (ends : HeaderEnds x s e) where
     -- A row of the record but the last is one of the lines.
     lines-none : {r : Reason} {p : ℕ} → ¬ LineRow x e r p → passOf r < passOf NoLetters → ¬ RecordRow x s r p
-    lines-none n h (no-header m) = m header
-    lines-none {p = p} n h (bad-name u b) = named p (u, b)
-    lines-none {r} {p} n h (in-lines i w) = n (subst (λ f. LineRow x f r p) (header-unique i ends) w)
-    lines-none n h (no-letters i m) = omega arith
+    lines-none none h (no-header m) = m header
+    lines-none {p = p} none h (bad-name u b) = named-fits name p (u, b)
+    lines-none {r} {p} none h (in-lines i w) = none (subst (λ f. LineRow x f r p) (header-unique i ends) w)
+    lines-none none h (no-letters i m) = omega arith
 
     -- Refusals 11, 12 and 14.
     lines-first : {q : ℕ} {r : Reason} → LineRow x e r q → CleanTo x e q → FirstOf (RecordRow x s) r q
@@ -118,6 +120,8 @@ module _ (x : List ℕ) (s : ℕ) where
         record {
           place = place;
           no-earlier = λ r p. lines-none (λ w. clean p (omega (arith, row-in-lines w)) r w);
+          name-end = n;
+          name = name;
           header-end = e;
           ends = ends;
           counted = counted ∙ ap (λ (l : List ℕ). length (sequenceLetters l e)) (ap (λ (n : ℕ). take n x) place ∙ take-length x);
@@ -138,8 +142,8 @@ record-says x s h = go (startsWith headerMark (drop s x)) (start-says x s header
 
     named : Stands x s headerMark → (n : Name) → NameSays x s n
         → RecordSays x s (nameChecked n (linesFrom (linesStart x s) false 0 (drop (linesStart x s) x)))
-    named b Named clean =
-        lines-record x s b clean (lines .ends) (linesFrom (linesStart x s) false 0 (drop (linesStart x s) x)) (header-lines-say lines)
+    named b Named n =
+        lines-record x s b (n .1) (lines .ends) (linesFrom (linesStart x s) false 0 (drop (linesStart x s) x)) (header-lines-say lines)
     named b (Misnamed p) row = name-first x s b (row .0) (row .1)
 
     go : (t : Bool) → StartSays x s headerMark t
