@@ -1,4 +1,4 @@
--- The reader refuses and accepts as document 01's table says: each row is given whenever its condition holds and no earlier check has refused,
+-- The reader answers as document 01's table says: each row is given whenever its condition holds and no earlier check has refused,
 -- and never otherwise.
 -- Assumes nothing.
 use mathlib.Core.Path.{_≡_, ap, subst}

@@ -1,4 +1,4 @@
--- Which row of document 01's table is given, and when the reader accepts.
+-- The answer that document 01's table ("Where each check stands") gives for an input of the reader.
 -- Assumes nothing.
 use mathlib.Core.Path.{_≡_}
 use mathlib.Core.List.{List}

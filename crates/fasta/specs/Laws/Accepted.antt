@@ -9,7 +9,7 @@ use borrow.Author.Tests.{eqb-false}
 use lib.Dec.{ltb, eqb}
 use lib.ListN.{length, take, drop, length-map}
 use lib.Seq.{take-at, take-length}
-use Rattle.answer.specs.declared.Reason.the-variants.{ShortOutput, NoLetters, TooManyLetters, FileTooLong}
+use Rattle.answer.specs.declared.Reason.the-variants.{ShortOutput, NoLetters, FileTooLong}
 use Rattle.answer.specs.declared.Outcome.the-variants.{Accepted}
 use Rattle.answer.specs.Answers.{acceptedWith, refusedFor}
 use Rattle.answer.specs.Checks.{pickAnswer, written}
@@ -23,7 +23,7 @@ use Rattle.fasta.specs.Rows.{NameEnds, sequenceLetters, in-lines}
 use Rattle.fasta.specs.Laws.NameBytes.{name-length}
 use Rattle.fasta.specs.Laws.LineRows.{letters-most}
 use Rattle.fasta.specs.Laws.HeaderLine.{record-letters}
-use Rattle.fasta.specs.Laws.RecordRows.{ReadToEnd, RecordSays, record-says}
+use Rattle.fasta.specs.Laws.RecordRows.{line-pass, ReadToEnd, RecordSays, record-says}
 
 -- What is known of an accepted input x of count letters.
 pub record AcceptedInput (x : List ℕ) (count : ℕ) : Type 0 where
@@ -54,7 +54,7 @@ finished-accepted (Finished n p) count h = go (eqb n 0) refl h
 whole-most : {x : List ℕ} {c q : ℕ} → ReadToEnd x 0 c q → c ≤ maxLetters
 whole-most {x} {c} w =
     let m : length (sequenceLetters (take (length x) x) (w .header-end)) ≤ maxLetters =
-    letters-most x (w .header-end) (λ p l. w .no-earlier TooManyLetters p (omega arith) (in-lines (w .ends) l)) (length x) (omega arith) in
+    letters-most x (w .header-end) (length x) (omega arith) (λ k h r l. w .no-earlier r k (omega (arith, line-pass l)) (in-lines (w .ends) l)) in
     let n : length (sequenceLetters x (w .header-end)) ≤ maxLetters =
     subst (λ (l : List ℕ). length (sequenceLetters l (w .header-end)) ≤ maxLetters) (take-length x) m in
     omega (arith, w .counted)

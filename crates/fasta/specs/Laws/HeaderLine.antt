@@ -1,4 +1,4 @@
--- The end of a record's header line, and the sequence lines behind it.
+-- What follows the end of a record's header line.
 -- Assumes nothing.
 use mathlib.Core.Path.{_≡_, refl, ap, _∙_}
 use mathlib.Core.Bool.{Bool, true, false, cond}
@@ -118,6 +118,5 @@ header-lines-say {x} {s} {q} b = go (b .place)
           behind = omega arith;
           line = rw d (z .0 .byte);
           counted = rw (letters-none x (b .header-end) (suc (b .header-end)) (omega arith));
-          most = omega arith;
           clean = λ k l r w. omega (arith, row-in-lines w);
         }))

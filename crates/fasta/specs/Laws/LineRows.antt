@@ -22,7 +22,7 @@ use Rattle.fasta.specs.declared.lines.Step.the-variants.{On, Off}
 use Rattle.fasta.specs.Bytes.{kindOf, headerMark, lineEnd, carriageReturn, startsWith}
 use Rattle.fasta.specs.Classes.{IsLetter, letter?}
 use Rattle.fasta.specs.Lines.{stepFor, linesFrom}
-use Rattle.fasta.specs.Rows.{Stands, InLines, LineStart, other-byte, return-alone, mark-inside, sequenceLetters}
+use Rattle.fasta.specs.Rows.{Stands, InLines, LineStart, UnfitAt, other-byte, return-alone, mark-inside, sequenceLetters}
 use Rattle.fasta.specs.Rows.{LineRow, unfit-byte, second-record, letter-too-many}
 use Rattle.fasta.specs.Laws.Classes.{KindSays, kind-says, letter-other}
 use Rattle.fasta.specs.Laws.SequenceLetters.{letters-none, letters-more, letters-same}
@@ -43,12 +43,26 @@ abbrev pub InsideSays : List ℕ → ℕ → Bool → Type 0
 InsideSays x p true = ¬ LineStart x p
 InsideSays x p false = LineStart x p
 
+-- Where no letter is too many, there are not too many.
+pub letters-most : (x : List ℕ) (e p : ℕ) → p ≤ length x → CleanTo x e p → length (sequenceLetters (take p x) e) ≤ maxLetters
+letters-most x e zero h clean = omega (arith, ap length (letters-none x e zero (omega arith)))
+letters-most x e (suc p) h clean =
+    go (decLt e p) (letter? (getD x p 0)) (letters-most x e p (omega arith) (λ k l. clean k (omega arith)))
+  where
+    go : Dec (e < p) → Dec (IsLetter (getD x p 0)) → length (sequenceLetters (take p x) e) ≤ maxLetters
+        → length (sequenceLetters (take (suc p) x) e) ≤ maxLetters
+    go (yes b) (yes l) m =
+        let here : InLines x e p = record { behind = b; inside = h } in
+        let few : ¬ (length (sequenceLetters (take p x) e) ≡ maxLetters) = λ c. clean p (omega arith) TooManyLetters (letter-too-many here l c) in
+        omega (arith, letters-more x e p b h l)
+    go (yes b) (no n) m = omega (arith, letters-same x e p b h n)
+    go (no n) d m = omega (arith, ap length (letters-none x e (suc p) (omega arith)))
+
 -- What holds where the pass has come to p.
 pub record Reached (x : List ℕ) (e p : ℕ) (inside : Bool) (count : ℕ) : Type 0 where
   pub behind : e < p
   pub line : InsideSays x p inside
   pub counted : count ≡ length (sequenceLetters (take p x) e)
-  pub most : count ≤ maxLetters
   pub clean : CleanTo x e p
 
 -- The position behind p starts a line where p has an LF.
@@ -62,12 +76,16 @@ behind-other x p n =
     let d : suc p - 1 ≡ p = omega arith in
     rw d n
 
+-- An unfit byte is no letter.
+pub unfit-no-letter : (x : List ℕ) (p : ℕ) → UnfitAt x p → ¬ IsLetter (getD x p 0)
+unfit-no-letter x p (other-byte n m o q) l = n l
+unfit-no-letter x p (return-alone c n) l = letter-other (getD x p 0) carriageReturn (omega arith) l c
+unfit-no-letter x p (mark-inside c n) l = letter-other (getD x p 0) headerMark (omega arith) l c
+
 module _ (x : List ℕ) (e p : ℕ) where
   -- A letter that is not too many.
   letter-fits : IsLetter (getD x p 0) → length (sequenceLetters (take p x) e) < maxLetters → (r : Reason) → ¬ LineRow x e r p
-  letter-fits l h r (unfit-byte i (other-byte n m o q)) = n l
-  letter-fits l h r (unfit-byte i (return-alone c n)) = letter-other (getD x p 0) carriageReturn (omega arith) l c
-  letter-fits l h r (unfit-byte i (mark-inside c n)) = letter-other (getD x p 0) headerMark (omega arith) l c
+  letter-fits l h r (unfit-byte i u) = unfit-no-letter x p u l
   letter-fits l h r (second-record i c s) = letter-other (getD x p 0) headerMark (omega arith) l c
   letter-fits l h r (letter-too-many i m c) = omega arith
 
@@ -93,15 +111,14 @@ module _ (x : List ℕ) (e p : ℕ) (inside : Bool) (count : ℕ) (within : p < 
   here = record { behind = at .behind; inside = within }
 
   -- The pass goes on.
-  on : (i : Bool) (c : ℕ) → InsideSays x (suc p) i → c ≡ length (sequenceLetters (take (suc p) x) e) → c ≤ maxLetters
-      → ((r : Reason) → ¬ LineRow x e r p) → EndingSays x e (linesFrom (suc p) i c (drop (suc p) x))
-  on i c l n m fits =
+  on : (i : Bool) (c : ℕ) → InsideSays x (suc p) i → c ≡ length (sequenceLetters (take (suc p) x) e) → ((r : Reason) → ¬ LineRow x e r p)
+      → EndingSays x e (linesFrom (suc p) i c (drop (suc p) x))
+  on i c l n fits =
       rest i c
       (record {
         behind = omega arith;
         line = l;
         counted = n;
-        most = m;
         clean = below-suc (λ k. (r : Reason) → ¬ LineRow x e r k) p (at .clean) fits;
       })
 
@@ -116,15 +133,14 @@ module _ (x : List ℕ) (e p : ℕ) (inside : Bool) (count : ℕ) (within : p < 
           let few : count < maxLetters = ltb-true count maxLetters h in
           let n : count ≡ length (sequenceLetters (take p x) e) = at .counted in
           on true (suc count) (behind-other x p (letter-other (getD x p 0) lineEnd (omega arith) l))
-          (omega (arith, letters-more x e p (at .behind) within l)) few (letter-fits x e p l (omega arith))
+          (omega (arith, letters-more x e p (at .behind) within l)) (letter-fits x e p l (omega arith))
       go false h =
           let n : count ≡ length (sequenceLetters (take p x) e) = at .counted in
-          let m : count ≤ maxLetters = at .most in
-          (letter-too-many here l (omega (arith, ltb-false count maxLetters h)), at .clean)
+          (letter-too-many here l (omega (arith, ltb-false count maxLetters h, letters-most x e p (omega arith) (at .clean))), at .clean)
   lines-step LineEnd b =
       on false count (behind-line-end x p b)
       (omega (arith, at .counted, letters-same x e p (at .behind) within (λ l. letter-other (getD x p 0) lineEnd (omega arith) l b)))
-      (at .most) (line-end-fits x e p b)
+      (line-end-fits x e p b)
   lines-step CarriageReturn b = go (startsWith lineEnd (drop (suc p) x)) (start-says x (suc p) lineEnd)
     where
       go : (t : Bool) → StartSays x (suc p) lineEnd t
@@ -133,7 +149,7 @@ module _ (x : List ℕ) (e p : ℕ) (inside : Bool) (count : ℕ) (within : p < 
       go true s =
           on true count (behind-other x p (λ c. omega arith))
           (omega (arith, at .counted, letters-same x e p (at .behind) within (λ l. letter-other (getD x p 0) carriageReturn (omega arith) l b)))
-          (at .most) (return-fits x e p b s)
+          (return-fits x e p b s)
       go false n = (unfit-byte here (return-alone b n), at .clean)
   lines-step HeaderMark b = go inside (at .line)
     where
@@ -153,19 +169,3 @@ lines-say x e zero p inside count h at =
 lines-say x e (suc d) p inside count h at =
     rw (drop-cons x p 0 (omega arith))
     (lines-step x e p inside count (omega arith) at (λ i c. lines-say x e d (suc p) i c (omega arith)) (kindOf (getD x p 0)) (kind-says (getD x p 0)))
-
--- Where no letter is too many, there are not too many.
-pub letters-most :
-    (x : List ℕ) (e : ℕ) → ((p : ℕ) → ¬ LineRow x e TooManyLetters p) → (p : ℕ) → p ≤ length x
-    → length (sequenceLetters (take p x) e) ≤ maxLetters
-letters-most x e none zero h = omega (arith, ap length (letters-none x e zero (omega arith)))
-letters-most x e none (suc p) h = go (decLt e p) (letter? (getD x p 0)) (letters-most x e none p (omega arith))
-  where
-    go : Dec (e < p) → Dec (IsLetter (getD x p 0)) → length (sequenceLetters (take p x) e) ≤ maxLetters
-        → length (sequenceLetters (take (suc p) x) e) ≤ maxLetters
-    go (yes b) (yes l) m =
-        let here : InLines x e p = record { behind = b; inside = h } in
-        let few : ¬ (length (sequenceLetters (take p x) e) ≡ maxLetters) = λ c. none p (letter-too-many here l c) in
-        omega (arith, letters-more x e p b h l)
-    go (yes b) (no n) m = omega (arith, letters-same x e p b h n)
-    go (no n) d m = omega (arith, ap length (letters-none x e (suc p) (omega arith)))

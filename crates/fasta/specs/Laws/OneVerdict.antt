@@ -11,13 +11,13 @@ use Rattle.answer.specs.declared.Outcome.the-variants.{Accepted, Refused}
 use Rattle.answer.specs.declared.Reason.{Reason}
 use Rattle.answer.specs.declared.Reason.the-variants.{EmptyText, TextTooLong, UnknownOrder, ShortOutput, ShortWork, ZeroEntry, CrossingSpans}
 use Rattle.answer.specs.declared.Reason.the-variants.{NoHeader, BadName, UnfitByte, NoLetters, FileTooLong}
-use Rattle.fasta.specs.Bytes.{headerMark, carriageReturn}
-use Rattle.fasta.specs.Classes.{IsLetter}
+use Rattle.fasta.specs.Bytes.{headerMark}
 use Rattle.fasta.specs.Rows.{HeaderEnds, LineStart, UnfitAt, other-byte, return-alone, mark-inside, sequenceLetters}
 use Rattle.fasta.specs.Rows.{LineRow, unfit-byte, second-record, letter-too-many, no-header, bad-name, in-lines, no-letters}
 use Rattle.fasta.specs.Rows.{Row, short-buffer, long-input, in-record}
 use Rattle.fasta.specs.Verdict.{passOf, Earlier, by-pass, by-position, Refuses, HasOutcome, HasAnswer}
 use Rattle.fasta.specs.Laws.Classes.{letter-other}
+use Rattle.fasta.specs.Laws.LineRows.{unfit-no-letter}
 use Rattle.fasta.specs.Laws.HeaderLine.{header-unique}
 use Rattle.fasta.specs.Laws.RecordRows.{line-pass}
 
@@ -30,11 +30,6 @@ passReason n =
     n EmptyText
 
 module _ (x : List ℕ) {p : ℕ} where
-  unfit-no-letter : UnfitAt x p → IsLetter (getD x p 0) → ⊥
-  unfit-no-letter (other-byte n m o q) l = n l
-  unfit-no-letter (return-alone c n) l = letter-other (getD x p 0) carriageReturn (omega arith) l c
-  unfit-no-letter (mark-inside c n) l = letter-other (getD x p 0) headerMark (omega arith) l c
-
   unfit-no-record : UnfitAt x p → getD x p 0 ≡ headerMark → LineStart x p → ⊥
   unfit-no-record (other-byte n m o q) b s = q b
   unfit-no-record (return-alone c n) b s = omega arith
@@ -44,11 +39,11 @@ module _ (x : List ℕ) {p : ℕ} where
   lines-same : {e : ℕ} {r r′ : Reason} → LineRow x e r p → LineRow x e r′ p → r ≡ r′
   lines-same (unfit-byte i u) (unfit-byte j v) = refl
   lines-same (unfit-byte i u) (second-record j b s) = absurd (unfit-no-record u b s)
-  lines-same (unfit-byte i u) (letter-too-many j l c) = absurd (unfit-no-letter u l)
+  lines-same (unfit-byte i u) (letter-too-many j l c) = absurd (unfit-no-letter x p u l)
   lines-same (second-record i b s) (unfit-byte j v) = absurd (unfit-no-record v b s)
   lines-same (second-record i b s) (second-record j c t) = refl
   lines-same (second-record i b s) (letter-too-many j l c) = absurd (letter-other (getD x p 0) headerMark (omega arith) l b)
-  lines-same (letter-too-many i l c) (unfit-byte j v) = absurd (unfit-no-letter v l)
+  lines-same (letter-too-many i l c) (unfit-byte j v) = absurd (unfit-no-letter x p v l)
   lines-same (letter-too-many i l c) (second-record j b s) = absurd (letter-other (getD x p 0) headerMark (omega arith) l b)
   lines-same (letter-too-many i l c) (letter-too-many j m d) = refl
 

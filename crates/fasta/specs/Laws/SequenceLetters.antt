@@ -1,4 +1,4 @@
--- The letters of the sequence lines, in list form and counted position by position.
+-- The letters of the sequence lines, position by position.
 -- Assumes nothing.
 use mathlib.Core.Path.{_≡_, refl, ap, _∙_}
 use mathlib.Core.Logic.{ite}
