@@ -43,3 +43,7 @@ headerMark = 62
 -- LF.
 abbrev pub lineEnd : ℕ
 lineEnd = 10
+
+-- CR.
+abbrev pub carriageReturn : ℕ
+carriageReturn = 13

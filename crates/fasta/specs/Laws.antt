@@ -1,4 +1,14 @@
 pub mod Stores
 pub mod Positions
 pub mod Names
+pub mod Classes
+pub mod Stands
+pub mod SequenceLetters
+pub mod NameRows
+pub mod NameBytes
+pub mod LineRows
+pub mod HeaderLine
+pub mod RecordRows
 pub mod Accepted
+pub mod Verdict
+pub mod OneVerdict

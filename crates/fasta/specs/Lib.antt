@@ -2,5 +2,9 @@ pub mod Bytes
 pub mod Name
 pub mod Lines
 pub mod Reader
+pub mod Classes
+pub mod Rows
+pub mod Verdict
 pub mod Examples
 pub mod Laws
+pub mod RowTheorems

@@ -1,4 +1,5 @@
 -- What the FASTA reader answers and which letters it writes (document 01, "The FASTA reader and the repeat lister"; rows 4 and 9 to 15 of its table).
+-- Computed; the rows as conditions on the input stand in Rows, that the two agree in RowTheorems.
 -- Assumes nothing.
 use mathlib.Core.Bool.{false, cond}
 use mathlib.Core.List.{List}

@@ -1,0 +1,57 @@
+-- The reader answers as document 01's table says: each row is given whenever its condition holds and no earlier check has refused,
+-- and never otherwise.
+-- Assumes nothing.
+use mathlib.Core.Path.{_≡_, ap, subst}
+use mathlib.Core.Logic.{_↔_}
+use mathlib.Core.List.{List, map}
+use Prim.Native.Nat.{ℕ, _-_, _≤_}
+use native.Mathlib.Omega.{arith}
+use lib.ListN.{length, take, drop}
+use Rattle.words.specs.ExactlyOne.{ExactlyOne}
+use Rattle.answer.specs.declared.Answer.{Answer}
+use Rattle.answer.specs.declared.Reason.{Reason}
+use Rattle.answer.specs.Answers.{acceptedWith, refusedFor}
+use Rattle.fasta.specs.Bytes.{letterOf}
+use Rattle.fasta.specs.Name.{recordName}
+use Rattle.fasta.specs.Reader.{linesStart, readerAnswer, lettersOf}
+use Rattle.fasta.specs.Rows.{NameEnds, HeaderEnds, sequenceLetters}
+use Rattle.fasta.specs.Verdict.{Refuses, Accepts, HasAnswer}
+use Rattle.fasta.specs.Laws.Accepted.{AcceptedInput, reader-accepted}
+use Rattle.fasta.specs.Laws.NameBytes.{name-bytes}
+use Rattle.fasta.specs.Laws.HeaderLine.{header-unique, LinesBegin, lines-begin, record-letters}
+use Rattle.fasta.specs.Laws.Verdict.{reader-says}
+use Rattle.fasta.specs.Laws.OneVerdict.{answer-unique}
+
+module _ (x : List ℕ) (places : ℕ) where
+  -- A row is given exactly when its condition holds and no earlier one's does.
+  pub refused-exactly : (r : Reason) (p : ℕ) → readerAnswer x places ≡ refusedFor r p ↔ Refuses x places r p
+  refused-exactly r p =
+      (λ e. subst (HasAnswer x places) e (reader-says x places), λ h. answer-unique x places (reader-says x places) h)
+
+  -- The input is accepted exactly when no row's condition holds; the count is that of the letters of the sequence lines.
+  pub accepted-exactly : (c : ℕ) → readerAnswer x places ≡ acceptedWith c ↔ Accepts x places c
+  accepted-exactly c =
+      (λ e. subst (HasAnswer x places) e (reader-says x places), λ h. answer-unique x places (reader-says x places) h)
+
+  -- The table gives exactly one answer, the reader's.
+  pub one-answer : ExactlyOne (HasAnswer x places)
+  one-answer =
+      record { value = readerAnswer x places; holds = reader-says x places; only = λ a h. answer-unique x places h (reader-says x places) }
+
+-- The header line of a record ends at exactly one position.
+pub one-header-end : (x : List ℕ) (s : ℕ) → s ≤ length x → ExactlyOne (HeaderEnds x s)
+one-header-end x s h =
+    let b : LinesBegin x s (linesStart x s) = lines-begin x s h in
+    record { value = b .header-end; holds = b .ends; only = λ e k. header-unique k (b .ends) }
+
+-- The letters that the reader writes are the letters of the sequence lines, in their order.
+pub letters-are : (x : List ℕ) (e : ℕ) → HeaderEnds x 0 e → lettersOf x ≡ map letterOf (sequenceLetters x e)
+letters-are x e h = record-letters x 0 e (omega arith) h
+
+-- The name of an accepted input ends where document 01 says, and is what stands between the '>' and that position.
+pub accepted-name :
+    (x : List ℕ) (places c : ℕ) → readerAnswer x places ≡ acceptedWith c
+    → (p : ℕ) × NameEnds x 0 p × (recordName x 0 ≡ take (p - 1) (drop 1 x))
+accepted-name x places c e =
+    let a : AcceptedInput x c = reader-accepted x places c (ap (λ (b : Answer). b .outcome) e) in
+    (a .name-end, a .name, name-bytes (a .name))

@@ -1,0 +1,61 @@
+-- The answer that document 01's table ("Where each check stands") gives for an input of the reader.
+-- Assumes nothing.
+use mathlib.Core.Path.{_≡_}
+use mathlib.Core.List.{List}
+use Prim.Native.Nat.{ℕ, _<_}
+use lib.ListN.{length}
+use Rattle.answer.specs.declared.Answer.{Answer}
+use Rattle.answer.specs.declared.Outcome.{Outcome}
+use Rattle.answer.specs.declared.Outcome.the-variants.{Accepted, Refused}
+use Rattle.answer.specs.declared.Reason.{Reason}
+use Rattle.answer.specs.declared.Reason.the-variants.{EmptyText, TextTooLong, UnknownOrder, ShortOutput, ShortWork, ZeroEntry, LongEntry, CrossingSpans}
+use Rattle.answer.specs.declared.Reason.the-variants.{NoHeader, BadName, UnfitByte, SecondRecord, NoLetters, TooManyLetters, FileTooLong}
+use Rattle.fasta.specs.Rows.{HeaderEnds, sequenceLetters, Row}
+
+-- "Checks run from the top row down; 6 and 7 share one pass, as do 11, 12 and 14": the passes in their order.
+abbrev pub passOf : Reason → ℕ
+passOf EmptyText = 1
+passOf TextTooLong = 2
+passOf UnknownOrder = 3
+passOf ShortOutput = 4
+passOf ShortWork = 5
+passOf ZeroEntry = 6
+passOf LongEntry = 6
+passOf CrossingSpans = 7
+passOf FileTooLong = 8
+passOf NoHeader = 9
+passOf BadName = 10
+passOf UnfitByte = 11
+passOf SecondRecord = 11
+passOf TooManyLetters = 11
+passOf NoLetters = 12
+
+-- The check for r at p comes before the check for r′ at p′: in an earlier pass, or in the same pass at a lesser position.
+pub data Earlier (r : Reason) (p : ℕ) (r′ : Reason) (p′ : ℕ) : Type 0 where
+  by-pass : passOf r < passOf r′ → Earlier r p r′ p′
+  by-position : passOf r ≡ passOf r′ → p < p′ → Earlier r p r′ p′
+
+-- "given whenever its condition holds and no earlier check has refused": the reason r, of these conditions, with the position p.
+pub record FirstOf (Condition : Reason → ℕ → Type 0) (r : Reason) (p : ℕ) : Type 0 where
+  pub holds : Condition r p
+  pub no-earlier : (r′ : Reason) (p′ : ℕ) → Earlier r′ p′ r p → ¬ Condition r′ p′
+
+-- The reader refuses x for the reason r with the position p.
+abbrev pub Refuses : List ℕ → ℕ → Reason → ℕ → Type 0
+Refuses x places r p = FirstOf (Row x places) r p
+
+-- The reader accepts x with c letters: no row's condition holds, and the sequence lines have c letters.
+pub record Accepts (x : List ℕ) (places c : ℕ) : Type 0 where
+  pub no-row : (r : Reason) (p : ℕ) → ¬ Row x places r p
+  pub header-end : ℕ
+  pub ends : HeaderEnds x 0 header-end
+  pub counted : c ≡ length (sequenceLetters x header-end)
+
+-- The outcome that document 01's table gives for x.
+abbrev pub HasOutcome : List ℕ → ℕ → Outcome → Type 0
+HasOutcome x places (Accepted c) = Accepts x places c
+HasOutcome x places (Refused r p) = Refuses x places r p
+
+-- The answer that document 01's table gives for x.
+abbrev pub HasAnswer : List ℕ → ℕ → Answer → Type 0
+HasAnswer x places a = HasOutcome x places (a .outcome)
