@@ -34,15 +34,15 @@ module _ (x : List ℕ) (places : ℕ) where
       (λ e. subst (HasAnswer x places) e (reader-says x places), λ h. answer-unique x places (reader-says x places) h)
 
   -- The table gives exactly one answer, the reader's.
-  pub one-answer : ExactlyOne (HasAnswer x places)
+  pub one-answer : ExactlyOne (HasAnswer x places) (readerAnswer x places)
   one-answer =
-      record { value = readerAnswer x places; holds = reader-says x places; only = λ a h. answer-unique x places h (reader-says x places) }
+      record { holds = reader-says x places; only = λ a h. answer-unique x places h (reader-says x places) }
 
 -- The header line of a record ends at exactly one position.
-pub one-header-end : (x : List ℕ) (s : ℕ) → s ≤ length x → ExactlyOne (HeaderEnds x s)
+pub one-header-end : (x : List ℕ) (s : ℕ) → s ≤ length x → (e : ℕ) × ExactlyOne (HeaderEnds x s) e
 one-header-end x s h =
     let b : LinesBegin x s (linesStart x s) = lines-begin x s h in
-    record { value = b .header-end; holds = b .ends; only = λ e k. header-unique k (b .ends) }
+    (b .header-end, record { holds = b .ends; only = λ e k. header-unique k (b .ends) })
 
 -- The letters that the reader writes are the letters of the sequence lines, in their order.
 pub letters-are : (x : List ℕ) (e : ℕ) → HeaderEnds x 0 e → lettersOf x ≡ map letterOf (sequenceLetters x e)

@@ -31,14 +31,14 @@ passOf TooManyLetters = 11
 passOf NoLetters = 12
 
 -- The check for r at p comes before the check for r′ at p′: in an earlier pass, or in the same pass at a lesser position.
-pub data Earlier (r : Reason) (p : ℕ) (r′ : Reason) (p′ : ℕ) : Type 0 where
-  by-pass : passOf r < passOf r′ → Earlier r p r′ p′
-  by-position : passOf r ≡ passOf r′ → p < p′ → Earlier r p r′ p′
+pub data EarlierCheck (r : Reason) (p : ℕ) (r′ : Reason) (p′ : ℕ) : Type 0 where
+  by-pass : passOf r < passOf r′ → EarlierCheck r p r′ p′
+  by-position : passOf r ≡ passOf r′ → p < p′ → EarlierCheck r p r′ p′
 
 -- "given whenever its condition holds and no earlier check has refused": the reason r, of these conditions, with the position p.
 pub record FirstOf (Condition : Reason → ℕ → Type 0) (r : Reason) (p : ℕ) : Type 0 where
   pub holds : Condition r p
-  pub no-earlier : (r′ : Reason) (p′ : ℕ) → Earlier r′ p′ r p → ¬ Condition r′ p′
+  pub no-earlier : (r′ : Reason) (p′ : ℕ) → EarlierCheck r′ p′ r p → ¬ Condition r′ p′
 
 -- The reader refuses x for the reason r with the position p.
 abbrev pub Refuses : List ℕ → ℕ → Reason → ℕ → Type 0

@@ -15,7 +15,7 @@ use Rattle.fasta.specs.Bytes.{headerMark}
 use Rattle.fasta.specs.Rows.{HeaderEnds, LineStart, UnfitAt, other-byte, return-alone, mark-inside, sequenceLetters}
 use Rattle.fasta.specs.Rows.{LineRow, unfit-byte, second-record, letter-too-many, no-header, bad-name, in-lines, no-letters}
 use Rattle.fasta.specs.Rows.{Row, short-buffer, long-input, in-record}
-use Rattle.fasta.specs.Verdict.{passOf, Earlier, by-pass, by-position, Refuses, HasOutcome, HasAnswer}
+use Rattle.fasta.specs.Verdict.{passOf, EarlierCheck, by-pass, by-position, Refuses, HasOutcome, HasAnswer}
 use Rattle.fasta.specs.Laws.Classes.{letter-other}
 use Rattle.fasta.specs.Laws.LineRows.{unfit-no-letter}
 use Rattle.fasta.specs.Laws.HeaderLine.{header-unique}
@@ -71,8 +71,8 @@ module _ (x : List ℕ) (places : ℕ) where
   -- There are not two first rows.
   refuses-unique : {r r′ : Reason} {p p′ : ℕ} → Refuses x places r p → Refuses x places r′ p′ → Refused r p ≡ Refused r′ p′
   refuses-unique {r} {r′} {p} {p′} f g =
-      let a : ¬ Earlier r p r′ p′ = λ h. g .no-earlier r p h (f .holds) in
-      let b : ¬ Earlier r′ p′ r p = λ h. f .no-earlier r′ p′ h (g .holds) in
+      let a : ¬ EarlierCheck r p r′ p′ = λ h. g .no-earlier r p h (f .holds) in
+      let b : ¬ EarlierCheck r′ p′ r p = λ h. f .no-earlier r′ p′ h (g .holds) in
       let low : ¬ (passOf r < passOf r′) = λ h. a (by-pass h) in
       let high : ¬ (passOf r′ < passOf r) = λ h. b (by-pass h) in
       let m : passOf r ≡ passOf r′ = omega arith in

@@ -19,19 +19,19 @@ use Rattle.fasta.specs.Lines.{linesFrom}
 use Rattle.fasta.specs.Reader.{nameChecked, linesStart, recordEnding}
 use Rattle.fasta.specs.Rows.{Stands, NameEnds, HeaderEnds, sequenceLetters, LineRow, unfit-byte, second-record, letter-too-many}
 use Rattle.fasta.specs.Rows.{RecordRow, no-header, bad-name, in-lines, no-letters}
-use Rattle.fasta.specs.Verdict.{passOf, Earlier, by-pass, by-position, FirstOf}
+use Rattle.fasta.specs.Verdict.{passOf, EarlierCheck, by-pass, by-position, FirstOf}
 use Rattle.fasta.specs.Laws.Stands.{StartSays, start-says}
 use Rattle.fasta.specs.Laws.NameRows.{NameRow, NameSays, named-fits, name-says}
 use Rattle.fasta.specs.Laws.LineRows.{CleanTo, EndingSays}
 use Rattle.fasta.specs.Laws.HeaderLine.{header-unique, LinesBegin, lines-begin, row-in-lines, header-lines-say}
 
 -- An earlier check is in no later pass.
-pub earlier-pass : {r r′ : Reason} {p p′ : ℕ} → Earlier r p r′ p′ → passOf r ≤ passOf r′
+pub earlier-pass : {r r′ : Reason} {p p′ : ℕ} → EarlierCheck r p r′ p′ → passOf r ≤ passOf r′
 earlier-pass (by-pass h) = omega arith
 earlier-pass (by-position e h) = omega arith
 
 -- In one pass the earlier check is at a lesser position.
-pub earlier-position : {r r′ : Reason} {p p′ : ℕ} → Earlier r p r′ p′ → passOf r′ ≤ passOf r → p < p′
+pub earlier-position : {r r′ : Reason} {p p′ : ℕ} → EarlierCheck r p r′ p′ → passOf r′ ≤ passOf r → p < p′
 earlier-position (by-pass h) k = absurd (omega arith)
 earlier-position (by-position e h) k = h
 
@@ -78,7 +78,7 @@ module _ (x : List ℕ) (s : ℕ) where
   header-first : ¬ Stands x s headerMark → FirstOf (RecordRow x s) NoHeader s
   header-first n = record { holds = no-header n; no-earlier = none }
     where
-      none : (r : Reason) (p : ℕ) → Earlier r p NoHeader s → ¬ RecordRow x s r p
+      none : (r : Reason) (p : ℕ) → EarlierCheck r p NoHeader s → ¬ RecordRow x s r p
       none r p h (no-header m) = omega (arith, earlier-position h (omega arith))
       none r p h (bad-name u b) = omega (arith, earlier-pass h)
       none r p h (in-lines i l) = omega (arith, earlier-pass h, line-pass l)
@@ -88,7 +88,7 @@ module _ (x : List ℕ) (s : ℕ) where
   name-first : Stands x s headerMark → {q : ℕ} → NameRow x s q → ((k : ℕ) → k < q → ¬ NameRow x s k) → FirstOf (RecordRow x s) BadName q
   name-first header {q} row clean = record { holds = bad-name (row .0) (row .1); no-earlier = none }
     where
-      none : (r : Reason) (p : ℕ) → Earlier r p BadName q → ¬ RecordRow x s r p
+      none : (r : Reason) (p : ℕ) → EarlierCheck r p BadName q → ¬ RecordRow x s r p
       none r p h (no-header m) = m header
       none r p h (bad-name u b) = clean p (earlier-position h (omega arith)) (u, b)
       none r p h (in-lines i l) = omega (arith, earlier-pass h, line-pass l)

@@ -17,7 +17,7 @@ use Rattle.fasta.specs.declared.lines.Ending.{Ending}
 use Rattle.fasta.specs.declared.lines.Ending.the-variants.{Stopped, NextRecord, Finished}
 use Rattle.fasta.specs.Reader.{recordEnding, answerFor, readerAnswer}
 use Rattle.fasta.specs.Rows.{sequenceLetters, RecordRow, no-letters, Row, short-buffer, long-input, in-record}
-use Rattle.fasta.specs.Verdict.{Earlier, FirstOf, Refuses, Accepts, HasAnswer}
+use Rattle.fasta.specs.Verdict.{EarlierCheck, FirstOf, Refuses, Accepts, HasAnswer}
 use Rattle.fasta.specs.Laws.RecordRows.{earlier-pass, earlier-position, record-pass, last-only, ReadToEnd, RecordSays, record-says}
 
 no-length : (l : List ℕ) → length l ≡ 0 → l ≡ []
@@ -29,7 +29,7 @@ module _ (x : List ℕ) (places : ℕ) where
   short-first : places < maxLetters → Refuses x places ShortOutput 0
   short-first h = record { holds = short-buffer h; no-earlier = none }
     where
-      none : (r : Reason) (p : ℕ) → Earlier r p ShortOutput 0 → ¬ Row x places r p
+      none : (r : Reason) (p : ℕ) → EarlierCheck r p ShortOutput 0 → ¬ Row x places r p
       none r p l (short-buffer k) = omega (arith, earlier-position l (omega arith))
       none r p l (long-input k) = omega (arith, earlier-pass l)
       none r p l (in-record w) = omega (arith, earlier-pass l, record-pass w)
@@ -38,7 +38,7 @@ module _ (x : List ℕ) (places : ℕ) where
   long-first : maxLetters ≤ places → maxInput < length x → Refuses x places FileTooLong maxInput
   long-first h i = record { holds = long-input i; no-earlier = none }
     where
-      none : (r : Reason) (p : ℕ) → Earlier r p FileTooLong maxInput → ¬ Row x places r p
+      none : (r : Reason) (p : ℕ) → EarlierCheck r p FileTooLong maxInput → ¬ Row x places r p
       none r p l (short-buffer k) = omega arith
       none r p l (long-input k) = omega (arith, earlier-position l (omega arith))
       none r p l (in-record w) = omega (arith, earlier-pass l, record-pass w)
