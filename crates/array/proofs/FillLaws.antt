@@ -13,27 +13,21 @@ use Rattle.words.specs.Letters.{orderOf, decided-order}
 use Rattle.words.specs.Laws.SpanLyndon.{letters}
 use Rattle.words.specs.Laws.SuffixOrder.{NextSmaller}
 use Rattle.words.specs.Compute.LyndonArray.{arrayOf, arrayOf-holds}
+use Rattle.answer.specs.Limits.{maxLength}
 use Rattle.answer.specs.Checks.{written}
 use Rattle.array.specs.declared.joined.Joined.{Joined}
-use Rattle.array.specs.Core.State.{entryOf, entry-next, entries-array, RowsOf, restoredAt, storedAt}
+use Rattle.array.specs.Core.State.{entryOf, entry-next, entries-array, RowsOf, restoredAt, StoreReady, storedAt}
 use Rattle.array.specs.Core.Joining.{Rows, Joining, LastPart, Restoring, finished, agreement-short, joining-store, restoring-start, restoring-step}
-use Rattle.array.specs.Core.Join.{ChangedAfter, JoinedTo}
+use Rattle.array.specs.Core.Join.{JoinReady, ChangedAfter, JoinedTo}
 use Rattle.array.specs.Core.Fill.{KeptFrom, Filled, HasRows, RestoredBelow, AllRestored}
 use Rattle.array.proofs.JoinLaws.{entry-own, restored-kept, restored-one, restored-length}
-
--- The smaller of two numbers is at most each.
-pub min-left : (r a b : ℕ) → r ≡ min a b → r ≤ a
-min-left r a b e = omega arith
-
-pub min-right : (r a b : ℕ) → r ≡ min a b → r ≤ b
-min-right r a b e = omega arith
 
 -- Nothing is filled before the first position.
 pub filled-start : (order : ℕ) (x buf : List ℕ) → Filled order x buf buf (length x)
 filled-start order x buf = record { rows = finished refl; others = record { size = refl; kept = λ t h. refl } }
 
 -- What is stored at the last place of a word of two letters or more fits.
-pub stored-small : (order : ℕ) (x before buf : List ℕ) (i s : ℕ) (r : Joined) → JoinedTo order x before buf i r → s ≤ r .part → 1 < r .end - i →
+stored-small : (order : ℕ) (x before buf : List ℕ) (i s : ℕ) (r : Joined) → JoinedTo order x before buf i r → s ≤ r .part → 1 < r .end - i →
     s ≤ length x
 stored-small order x before buf i s r w h l = go (w .joining .joined)
   where
@@ -46,6 +40,34 @@ stored-small order x before buf i s r w h l = go (w .joining .joined)
           agreement-short (orderOf order) (letters 0 x) (length x) (entryOf order x) (entry-next order x) i (r .end) (p .part) (r .part)
               (w .joining .lyndon) (p .after) (p .before) (p .agree),
         )
+
+-- What joining at the position before i asks for.
+pub filled-ready : (order : ℕ) (x before buf : List ℕ) (i : ℕ) → Filled order x before buf i → length x ≤ length before → length x ≤ maxLength → 0 < i →
+    i ≤ length x → JoinReady order x buf (i - 1)
+filled-ready order x before buf i f fits small p q =
+    let e : i ≡ i - 1 + 1 = omega arith in
+    record {
+      inside = omega arith;
+      fits = omega (arith, f .others .size);
+      small = small;
+      rows = subst (λ (k : ℕ). RowsOf order x buf k) e (f .rows);
+    }
+
+-- What storing the joined word asks for.
+pub store-ready : (order : ℕ) (x before buf : List ℕ) (i k s : ℕ) (r : Joined) → JoinedTo order x before buf i r → s ≡ min k (r .part) →
+    length x ≤ length before → length x ≤ maxLength → StoreReady buf i (r .end) s
+store-ready order x before buf i k s r w e fits small =
+    record {
+      after = w .joining .lyndon .non-empty;
+      inside = omega (arith, w .joining .inside, w .changed .size);
+      small = omega (arith, w .joining .inside);
+      stored = λ l. omega (arith, stored-small order x before buf i s r w (omega arith) l);
+    }
+
+pub filled-store-ready : (order : ℕ) (x before₀ before buf : List ℕ) (i k s : ℕ) (r : Joined) → Filled order x before₀ before i →
+    JoinedTo order x before buf (i - 1) r → s ≡ min k (r .part) → length x ≤ length before₀ → length x ≤ maxLength → StoreReady buf (i - 1) (r .end) s
+filled-store-ready order x before₀ before buf i k s r f w e fits small =
+    store-ready order x before buf (i - 1) k s r w e (omega (arith, f .others .size)) small
 
 -- The length of the word from i is stored.
 pub filled-store : (order : ℕ) (x before₀ before after : List ℕ) (i e k g s : ℕ) → Filled order x before₀ before (i + 1) → length x ≤ length before₀ →
@@ -119,11 +141,19 @@ filled-store order x before₀ before after i e k g s f fits changed joining nex
             let z : getD (set after i (e - i)) i 0 ≡ e - i = getD-set-same after i (e - i) 0 (omega (arith, size, p, q)) in
             omega (arith, p)
 
-pub filled-step : (order : ℕ) (x before₀ before after : List ℕ) (i s : ℕ) (r : Joined) → Filled order x before₀ before (i + 1) →
-    length x ≤ length before₀ → JoinedTo order x before after i r → s ≤ r .agreed → s ≤ r .part →
-    Filled order x before₀ (storedAt after i (r .end) s) i
-filled-step order x before₀ before after i s r f fits w a b =
-    filled-store order x before₀ before after i (r .end) (r .agreed) (r .part) s f fits (w .changed) (w .joining) (w .next) a b
+-- One position more has been joined.
+pub filled-step : (order : ℕ) (x before₀ before joined after : List ℕ) (i s : ℕ) (r : Joined) → Filled order x before₀ before i → 0 < i →
+    length x ≤ length before₀ → JoinedTo order x before joined (i - 1) r → s ≡ min (r .agreed) (r .part) →
+    after ≡ storedAt joined (i - 1) (r .end) s → Filled order x before₀ after (i - 1)
+filled-step order x before₀ before joined after i s r f p fits w e stored =
+    let z : i ≡ i - 1 + 1 = omega arith in
+    rw stored
+    (filled-store order x before₀ before joined (i - 1) (r .end) (r .agreed) (r .part) s (subst (λ (k : ℕ). Filled order x before₀ before k) z f)
+    fits (w .changed) (w .joining) (w .next) (omega arith) (omega arith))
+
+-- Every position has been joined.
+pub filled-end : (order : ℕ) (x before buf : List ℕ) (i : ℕ) → Filled order x before buf i → i ≤ 0 → Filled order x before buf 0
+filled-end order x before buf i f h = let z : i ≡ 0 = omega arith in subst (λ (k : ℕ). Filled order x before buf k) z f
 
 -- Nothing is restored yet.
 pub restored-start : (buf : List ℕ) (n : ℕ) → RestoredBelow buf buf n 0
@@ -152,18 +182,19 @@ factor-at before buf n j l h w q e =
       inside = omega (arith, h .inside, w .others .size);
     }
 
-pub restored-step : (before buf : List ℕ) (n j l : ℕ) → HasRows before n → RestoredBelow before buf n j → j < n → l ≡ getD buf j 0 →
-    RestoredBelow before (restoredAt buf j l) n (j + l)
-restored-step before buf n j l h w q e =
+pub restored-step : (before buf after : List ℕ) (n j l : ℕ) → HasRows before n → RestoredBelow before buf n j → j < n → l ≡ getD buf j 0 →
+    after ≡ restoredAt buf j l → RestoredBelow before after n (j + l)
+restored-step before buf after n j l h w q e changed =
     let f = factor-at before buf n j l h w q e in
-    record {
+    rw changed
+    (record {
       others =
           record {
             size = restored-length buf j l ∙ w .others .size;
             kept = λ t p. restored-kept buf j l t (λ z. omega (arith, f .ends)) ∙ w .others .kept t p;
           };
       restoring = λ order x ex r. step f order x ex (w .restoring order x ex r);
-    }
+    })
   where
     step : FactorAt buf n j l → (order : ℕ) (x : List ℕ) → length x ≡ n → Restoring (letters 0 x) (length x) (entryOf order x) (letters 0 buf) j →
         Restoring (letters 0 x) (length x) (entryOf order x) (letters 0 (restoredAt buf j l)) (j + l)

@@ -49,9 +49,9 @@ pub entry-own : (order : ℕ) (x buf : List ℕ) (j : ℕ) → j < length x → 
 entry-own order x buf j l r = front (letters 0 x) (length x) (entryOf order x) (letters 0 buf) j l r .own
 
 -- The factor at j lies inside the buffer.
-pub factor-fits : (order : ℕ) (x before buf : List ℕ) (i j k g l : ℕ) → JoinLoop order x before buf i j k g → j < length x → length x ≤ length before →
+pub factor-fits : {order : ℕ} {x before buf : List ℕ} {i j k g l : ℕ} → JoinLoop order x before buf i j k g → j < length x → length x ≤ length before →
     l ≡ getD buf j 0 → j + l ≤ length buf
-factor-fits order x before buf i j k g l w inside fits el =
+factor-fits {order} {x} {buf = buf} {j = j} w inside fits el =
     omega (arith, el ∙ entry-own order x buf j inside (w .joining .rows), entry-next order x j inside .inside, w .changed .size)
 
 -- What is known where the word from i to j is compared with the factor at j: l is the factor's length, s the number remembered of it.
@@ -67,9 +67,9 @@ pub record Comparing (order : ℕ) (x before buf : List ℕ) (i j k₀ g₀ l s 
   pub known : Known (letters 0 x) (length x) (entryOf order x) (letters 0 buf) j s
   pub short : s < l
 
-pub comparing : (order : ℕ) (x before buf : List ℕ) (i j k₀ g₀ l s : ℕ) → JoinLoop order x before buf i j k₀ g₀ → j < length x →
+pub comparing : {order : ℕ} {x before buf : List ℕ} {i j k₀ g₀ l s : ℕ} → JoinLoop order x before buf i j k₀ g₀ → j < length x →
     length x ≤ length before → length x ≤ maxLength → l ≡ getD buf j 0 → s ≡ rememberedAt buf j l → Comparing order x before buf i j k₀ g₀ l s
-comparing order x before buf i j k₀ g₀ l s w inside fits small el es =
+comparing {order} {x} {buf = buf} {j = j} {l = l} {s} w inside fits small el es =
     let e : l ≡ entryOf order x j = el ∙ entry-own order x buf j inside (w .joining .rows) in
     let nj = entry-next order x j inside in
     let known : Known (letters 0 x) (length x) (entryOf order x) (letters 0 buf) j s =
@@ -88,10 +88,7 @@ comparing order x before buf i j k₀ g₀ l s w inside fits small el es =
       short = omega (arith, known .short);
     }
 
-module _ (order : ℕ) (x before buf : List ℕ) (i j k₀ g₀ l s : ℕ) (w : Comparing order x before buf i j k₀ g₀ l s) (k : ℕ) where
-  lyndon : SpanLyndon (orderOf order) (letters 0 x) i j
-  lyndon = w .loop .joining .lyndon
-
+module _ {order : ℕ} {x before buf : List ℕ} {i j k₀ g₀ l s : ℕ} (w : Comparing order x before buf i j k₀ g₀ l s) {k : ℕ} where
   reached : l ≤ k → Agreeing x i j k → Agree (letters 0 x) i j (entryOf order x j)
   reached h g = agree-less (letters 0 x) i j k (entryOf order x j) (g .agree) (omega (arith, w .is-length))
 
@@ -108,7 +105,7 @@ module _ (order : ℕ) (x before buf : List ℕ) (i j k₀ g₀ l s : ℕ) (w : 
 
   prefix-next : l ≤ k → Agreeing x i j k → NextSmaller (orderOf order) (letters 0 x) (length x) i j
   prefix-next h g =
-      leave-prefix (orderOf order) (letters 0 x) (length x) (entryOf order x) (entry-next order x) (letters-compared order x) i j lyndon (w .inside)
+      leave-prefix (orderOf order) (letters 0 x) (length x) (entryOf order x) (entry-next order x) (letters-compared order x) i j (w .loop .joining .lyndon) (w .inside)
       (omega (arith, no-shorter h g, w .is-length)) (reached h g)
 
   -- The factor ended without a difference, and is as long as the word.
@@ -125,23 +122,24 @@ module _ (order : ℕ) (x before buf : List ℕ) (i j k₀ g₀ l s : ℕ) (w : 
   past-below g h q =
       (g, shorter (j - i) (omega (arith, w .after)) (omega (arith, w .is-length)) (agree-less (letters 0 x) i j k (j - i) (g .agree) q))
 
-  -- A difference inside both, the word's letter the smaller one.
-  pub letter-below : Agreeing x i j k → k < l → k < j - i → ¬ (getD x (i + k) 0 ≡ getD x (j + k) 0) →
-      smallerIn order (getD x (i + k) 0) (getD x (j + k) 0) ≡ true → Compared order x i j k Below
-  letter-below g h q d e = (
-    g,
-    differs k (omega arith) (omega (arith, w .is-length)) (g .agree) (smallerIn-below order (getD x (i + k) 0) (getD x (j + k) 0) d e),
-  )
+  -- A difference inside both, the word's letter a the smaller one of a and b.
+  pub letter-below : {a b : ℕ} → a ≡ getD x (i + k) 0 → b ≡ getD x (j + k) 0 → Agreeing x i j k → k < l → k < j - i → ¬ (a ≡ b) →
+      smallerIn order a b ≡ true → Compared order x i j k Below
+  letter-below {a} {b} p q g h in-word d e =
+      let less : Smaller (orderOf order) a b = smallerIn-below order a b d e in
+      (g, differs k (omega arith) (omega (arith, w .is-length)) (g .agree) (rw (p, q) at less))
 
-  -- A difference inside both, the factor's letter the smaller one.
-  pub letter-above : Agreeing x i j k → k < l → k < j - i → ¬ (getD x (i + k) 0 ≡ getD x (j + k) 0) →
-      smallerIn order (getD x (i + k) 0) (getD x (j + k) 0) ≡ false → Compared order x i j k Above
-  letter-above g h q d e = (
-    g,
-    leave-letter (orderOf order) (letters 0 x) (length x) (entryOf order x) (entry-next order x) i j k lyndon (omega (arith, w .ends)) (g .agree)
-        (smallerIn-above order (getD x (i + k) 0) (getD x (j + k) 0) d e),
-    λ q′. (λ z. d (z .1 k (omega (arith, w .is-length))), λ q″. d),
-  )
+  -- A difference inside both, the factor's letter b the smaller one.
+  pub letter-above : {a b : ℕ} → a ≡ getD x (i + k) 0 → b ≡ getD x (j + k) 0 → Agreeing x i j k → k < l → k < j - i → ¬ (a ≡ b) →
+      smallerIn order a b ≡ false → Compared order x i j k Above
+  letter-above {a} {b} p q g h in-word d e =
+      let less : Smaller (orderOf order) b a = smallerIn-above order a b d e in
+      let differ : ¬ (letters 0 x (i + k) ≡ letters 0 x (j + k)) = λ z. d (p ∙ z ∙ sym q) in (
+        g,
+        leave-letter (orderOf order) (letters 0 x) (length x) (entryOf order x) (entry-next order x) i j k (w .loop .joining .lyndon) (omega (arith, w .ends)) (g .agree)
+            (rw (q, p) at less),
+        λ q′. (λ z. differ (z .1 k (omega (arith, w .is-length))), λ q″. differ),
+      )
 
   -- The word has ended without a difference, and is shorter than the factor.
   pub word-below : Agreeing x i j k → k ≡ j - i → j - i < l → Compared order x i j k Below
@@ -152,17 +150,21 @@ module _ (order : ℕ) (x before buf : List ℕ) (i j k₀ g₀ l s : ℕ) (w : 
       Compared order x i j (j - i + s) Below
   leap-below g e h q m =
       let r =
-      shortcut (orderOf order) (letters 0 x) (length x) (entryOf order x) (entry-next order x) (letters 0 buf) i j (j - i) s lyndon (w .inside)
+      shortcut (orderOf order) (letters 0 x) (length x) (entryOf order x) (entry-next order x) (letters 0 buf) i j (j - i) s (w .loop .joining .lyndon) (w .inside)
       (omega (arith, w .after)) (agree-less (letters 0 x) i j k (j - i) (g .agree) (omega arith)) (w .known) q (m ∙ w .is-length) in
       (record { agree = r .0; within = omega (arith, w .ends, w .is-length, r .1) }, word-below g e h .1)
 
   -- One letter more agrees.
-  pub agree-more : Agreeing x i j k → k < l → getD x (i + k) 0 ≡ getD x (j + k) 0 → Agreeing x i j (k + 1)
-  agree-more g h e = record { agree = λ t q. at t q (decLt t k); within = omega (arith, w .ends) }
+  pub agree-more : {a b : ℕ} → a ≡ getD x (i + k) 0 → b ≡ getD x (j + k) 0 → Agreeing x i j k → k < l → a ≡ b → Agreeing x i j (k + 1)
+  agree-more p q g h e = record { agree = λ t m. at t m (decLt t k); within = omega (arith, w .ends) }
     where
       at : (t : ℕ) → t < k + 1 → Dec (t < k) → letters 0 x (i + t) ≡ letters 0 x (j + t)
-      at t q (yes p) = g .agree t p
-      at t q (no p) = let z : k ≡ t = omega (arith, p) in subst (λ (u : ℕ). letters 0 x (i + u) ≡ letters 0 x (j + u)) z e
+      at t m (yes n) = g .agree t n
+      at t m (no n) = let z : k ≡ t = omega (arith, n) in subst (λ (u : ℕ). letters 0 x (i + u) ≡ letters 0 x (j + u)) z (sym p ∙ e ∙ q)
+
+-- Where the comparison begins.
+pub agreeing-start : {order : ℕ} {x before buf : List ℕ} {i j k₀ g₀ l s : ℕ} → Comparing order x before buf i j k₀ g₀ l s → Agreeing x i j k₀
+agreeing-start w = record { agree = w .loop .joining .agree (w .inside); within = w .loop .joining .within (w .inside) }
 
 -- Changes of the buffer.
 pub restored-kept : (buf : List ℕ) (j l t : ℕ) → ¬ (suc t ≡ j + l) → getD (restoredAt buf j l) t 0 ≡ getD buf t 0
@@ -190,10 +192,11 @@ restored-length buf j l = go (decLt 1 l)
     go (no p) = let q : l ≤ 1 = omega (arith, p) in simp (le-ltb _ _ q)
 
 -- The factor at j is joined: the next state of the loop.
-pub join-step : (order : ℕ) (x before buf : List ℕ) (i j k₀ g₀ l s : ℕ) → Comparing order x before buf i j k₀ g₀ l s → (k k′ : ℕ) →
-    Compared order x i j k Below → k′ ≤ k → k′ ≤ s → JoinLoop order x before (restoredAt buf j l) i (j + l) k′ k
-join-step order x before buf i j k₀ g₀ l s w k k′ c a b =
-    subst (λ (m : ℕ). JoinLoop order x before (restoredAt buf j m) i (j + m) k′ k) (sym (w .is-length))
+pub join-step : {order : ℕ} {x before buf after : List ℕ} {i j k₀ g₀ l s k k′ : ℕ} {v : Comparison} →
+    Comparing order x before buf i j k₀ g₀ l s → Compared order x i j k v → v ≡ Below → k′ ≤ k → k′ ≤ s → after ≡ restoredAt buf j l →
+    JoinLoop order x before after i (j + l) k′ k
+join-step {order} {x} {buf = buf} {i = i} {j} {k₀} {g₀} {s = s} {k = k} {k′} w told is-below a b changed =
+    rw (changed, w .is-length)
     (record {
       changed =
           record {
@@ -217,9 +220,12 @@ join-step order x before buf i j k₀ g₀ l s w k k′ c a b =
     nj : NextSmaller (orderOf order) (letters 0 x) (length x) j (j + m)
     nj = entry-next order x j (w .inside)
 
+    c : Compared order x i j k Below
+    c = subst (Compared order x i j k) is-below told
+
 -- The state before anything is joined.
-pub join-start : (order : ℕ) (x buf : List ℕ) (i : ℕ) → i < length x → RowsOf order x buf (i + 1) → JoinLoop order x buf buf i (i + 1) 0 0
-join-start order x buf i l r =
+pub join-start : {order : ℕ} {x buf : List ℕ} {i : ℕ} → i < length x → RowsOf order x buf (i + 1) → JoinLoop order x buf buf i (i + 1) 0 0
+join-start {order} {x} {buf} {i} l r =
     let e : i + 1 ≡ suc i = omega arith in
     subst (λ (j : ℕ). JoinLoop order x buf buf i j 0 0) (sym e)
     (record {
@@ -230,10 +236,10 @@ join-start order x buf i l r =
     })
 
 -- The comparison stopped the joining: the word ends at its next smaller suffix.
-joined-stopped : (order : ℕ) (x before buf : List ℕ) (i j k₀ g₀ l s : ℕ) → Comparing order x before buf i j k₀ g₀ l s → (k : ℕ) (stop : Comparison) →
+joined-stopped : {order : ℕ} {x before buf : List ℕ} {i j k₀ g₀ l s k : ℕ} {stop : Comparison} → Comparing order x before buf i j k₀ g₀ l s →
     Agreeing x i j k × NextSmaller (orderOf order) (letters 0 x) (length x) i j × Stopped order x i j k stop →
     JoinedTo order x before buf i (record { end = j; agreed = k; part = g₀; stop = stop })
-joined-stopped order x before buf i j k₀ g₀ l s w k stop c =
+joined-stopped {order} {x} {buf = buf} {i = i} {j} {k₀} {g₀} {k = k} w c =
     record {
       changed = w .loop .changed;
       joining =
@@ -244,19 +250,19 @@ joined-stopped order x before buf i j k₀ g₀ l s w k stop c =
     }
 
 -- It said same.
-pub joined-same : (order : ℕ) (x before buf : List ℕ) (i j k₀ g₀ l s : ℕ) → Comparing order x before buf i j k₀ g₀ l s → (k : ℕ) →
-    Compared order x i j k Same → JoinedTo order x before buf i (record { end = j; agreed = k; part = g₀; stop = Same })
-joined-same order x before buf i j k₀ g₀ l s w k c = joined-stopped order x before buf i j k₀ g₀ l s w k Same c
+pub joined-same : {order : ℕ} {x before buf : List ℕ} {i j k₀ g₀ l s k : ℕ} {v : Comparison} → Comparing order x before buf i j k₀ g₀ l s →
+    Compared order x i j k v → v ≡ Same → JoinedTo order x before buf i (record { end = j; agreed = k; part = g₀; stop = Same })
+joined-same {order} {x} {i = i} {j} {k = k} w told e = joined-stopped w (subst (Compared order x i j k) e told)
 
 -- It said above.
-pub joined-above : (order : ℕ) (x before buf : List ℕ) (i j k₀ g₀ l s : ℕ) → Comparing order x before buf i j k₀ g₀ l s → (k : ℕ) →
-    Compared order x i j k Above → JoinedTo order x before buf i (record { end = j; agreed = k; part = g₀; stop = Above })
-joined-above order x before buf i j k₀ g₀ l s w k c = joined-stopped order x before buf i j k₀ g₀ l s w k Above c
+pub joined-above : {order : ℕ} {x before buf : List ℕ} {i j k₀ g₀ l s k : ℕ} {v : Comparison} → Comparing order x before buf i j k₀ g₀ l s →
+    Compared order x i j k v → v ≡ Above → JoinedTo order x before buf i (record { end = j; agreed = k; part = g₀; stop = Above })
+joined-above {order} {x} {i = i} {j} {k = k} w told e = joined-stopped w (subst (Compared order x i j k) e told)
 
 -- The text ended.
-pub joined-end : (order : ℕ) (x before buf : List ℕ) (i j k g : ℕ) → JoinLoop order x before buf i j k g → length x ≤ j →
+pub joined-end : {order : ℕ} {x before buf : List ℕ} {i j k g : ℕ} → JoinLoop order x before buf i j k g → length x ≤ j →
     JoinedTo order x before buf i (record { end = j; agreed = k; part = g; stop = Above })
-joined-end order x before buf i j k g w h =
+joined-end {order} {x} {i = i} {j} w h =
     let e : length x ≡ j = omega (arith, w .joining .inside) in
     record {
       changed = w .changed;

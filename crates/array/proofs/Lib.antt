@@ -1,3 +1,4 @@
+pub mod AnswerLaws
 pub mod JoinLaws
 pub mod FillLaws
 pub mod RunLaws

@@ -3,7 +3,7 @@
 use mathlib.Core.Path.{_≡_, refl, sym, ap, subst, _∙_}
 use mathlib.Core.Logic.{_⊎_, inl, inr}
 use mathlib.Core.List.{List, [], _∷_, _++_}
-use Prim.Native.Nat.{ℕ, zero, suc, _+_, _-_, _*_, _<_, _≤_}
+use Prim.Native.Nat.{ℕ, zero, suc, _+_, _-_, _*_, _<_, _≤_, min}
 use native.Mathlib.Omega.{arith}
 use native.Mathlib.Decide.{decLt, ℕ-discrete}
 use lib.ListN.{length, getD, set, take, drop, length-set, length-drop, length-append}
@@ -16,15 +16,16 @@ use Rattle.words.specs.Laws.SuffixOrder.{NextSmaller, agree-less}
 use Rattle.words.specs.Laws.RunListing.{Extent, ListedAt, extent-from, repeated-not-listed, agreement-short as root-agreement}
 use Rattle.words.specs.Laws.RunMarks.{ListedEntry, endBound, end-below, entry-listed, unlisted, entryOf as runEntry}
 use Rattle.words.specs.Laws.EachRunOnce.{ListsDown, lists-none, lists-skip, lists-one}
+use Rattle.answer.specs.Limits.{maxLength}
 use Rattle.sorting.specs.Exchange.{put, length-put}
 use Rattle.array.specs.CommonPrefix.{commonPrefix, Agreement, commonPrefix-agreement}
 use Rattle.array.specs.Core.State.{entryOf, entry-next, RowsOf, storedAt}
 use Rattle.array.specs.Core.Joining.{Joining, joining-agreed}
 use Rattle.array.specs.Core.Fill.{KeptFrom, Filled}
 use Rattle.array.specs.Core.Join.{SameWord, Agreeing, Stopped, JoinedTo}
-use Rattle.array.specs.Core.RunPass.{StoppedAt, Exact, ExtendedTo, LeftExtent, AtRoot, putAll, Listed, skipped, listed, Visited, Passing}
+use Rattle.array.specs.Core.RunPass.{StoppedAt, Exact, ExtendedTo, LeftExtent, AtRoot, putAll, Listed, skipped, listed, VisitReady, Visited, Passing}
 use Rattle.array.proofs.JoinLaws.{entry-own}
-use Rattle.array.proofs.FillLaws.{filled-start, filled-store}
+use Rattle.array.proofs.FillLaws.{filled-start, filled-ready, filled-store}
 use Rattle.array.specs.declared.joined.Joined.{Joined}
 use Rattle.array.specs.declared.joined.Comparison.{Comparison}
 use Rattle.array.specs.declared.joined.Comparison.the-variants.{Below, Same, Above}
@@ -78,9 +79,10 @@ module _ (x buf : List ℕ) (i j k : ℕ) where
           let v : j + k + (t - k) ≡ j + t = omega (arith, h) in
           sym (ap (letters 0 x) u) ∙ sym (getD-drop (i + k) x (t - k) 0) ∙ f .alike (t - k) (omega (arith, h)) ∙ getD-drop (j + k) x (t - k) 0 ∙ ap (letters 0 x) v
 
-  pub extended-letter : (stop : Comparison) → stop ≡ Above → StoppedAt x buf i j k stop → j < length x → k < getD buf j 0 → ExtendedTo x i j k stop
-  extended-letter stop e w l h =
-      subst (ExtendedTo x i j k) (sym e) (letter-exact (subst (StoppedAt x buf i j k) e w) l h)
+  pub extended-letter : (stop : Comparison) → stop ≡ Above → StoppedAt x buf i j k stop → j < length x → (m : ℕ) → m ≡ getD buf j 0 → k < m →
+      ExtendedTo x i j k stop
+  extended-letter stop e w l m q h =
+      subst (ExtendedTo x i j k) (sym e) (letter-exact (subst (StoppedAt x buf i j k) e w) l (omega arith))
 
   -- The leaf is handed the rests of the text.
   rests : (r : ℕ) → r ≡ commonPrefix (take (length x - (i + k)) (drop (i + k) x)) (take (length x - (j + k)) (drop (j + k) x)) →
@@ -264,17 +266,19 @@ module _ (order : ℕ) (x before buf : List ℕ) (i : ℕ) (r : Joined) (w : Joi
       (subst (λ (m : ℕ). Agree (letters 0 x) i m p) (sym (q .1 .0)) (q .1 .1)) (omega (arith, q .1 .0, nj .inside))
       (endBound order (length x)) (t .start) (suc (t .last)) (t .period))
 
-  pub never-below : ¬ (r .stop ≡ Below)
-  never-below e = subst (λ (c : Comparison). Stopped order x i (r .end) (r .agreed) c) e (w .stopped)
+  -- It never said below.
+  pub never-below : (list : List ℕ) (count : ℕ) → r .stop ≡ Below → Listed order x list list i count count
+  never-below list count e = absurd (subst (λ (c : Comparison). Stopped order x i (r .end) (r .agreed) c) e (w .stopped))
 
 -- A visited position: its row is stored, and its run is listed.
-pub visited : (order : ℕ) (x before buf list list′ : List ℕ) (i s k count m : ℕ) (r : Joined) → RowsOf order x before (i + 1) → length x ≤ length before →
-    JoinedTo order x before buf i r → ExtendedTo x i (r .end) k (r .stop) → s ≤ k → s ≤ r .part → Listed order x list list′ i count m →
-    Visited order x before (storedAt buf i (r .end) s) list list′ i count m
-visited order x before buf list list′ i s k count m r rows fits w e a b l =
-    let f = filled-store order x before before buf i (r .end) k (r .part) s
-    (record { rows = rows; others = record { size = refl; kept = λ t h. refl } }) fits (w .changed) (extended-joining order x before buf i r w k e) (w .next) a b in
-    record { rows = f .rows; others = f .others; entry = l }
+pub visited : (order : ℕ) (x before buf after list list′ : List ℕ) (i s k count m : ℕ) (r : Joined) → RowsOf order x before (i + 1) →
+    length x ≤ length before → JoinedTo order x before buf i r → ExtendedTo x i (r .end) k (r .stop) → s ≡ min k (r .part) →
+    after ≡ storedAt buf i (r .end) s → Listed order x list list′ i count m → Visited order x before after list list′ i count m
+visited order x before buf after list list′ i s k count m r rows fits w e a stored l =
+    let f =
+    filled-store order x before before buf i (r .end) k (r .part) s (record { rows = rows; others = record { size = refl; kept = λ t h. refl } })
+    fits (w .changed) (extended-joining order x before buf i r w k e) (w .next) (omega arith) (omega arith) in
+    rw stored (record { rows = f .rows; others = f .others; entry = l })
 
 -- Entries written one after another.
 pub putAll-length : (l : List ℕ) (k : ℕ) (rs : List Entry) → length (putAll l k rs) ≡ length l
@@ -298,16 +302,13 @@ passing-start order x buf list from =
       content = refl;
     }
 
--- One position more has been visited.
-pub passing-step : (order : ℕ) (x before buf buf′ list list′ list″ : List ℕ) (from i count m : ℕ) → Passing order x before buf list list′ from (i + 1) count →
-    Visited order x buf buf′ list′ list″ i count m → Passing order x before buf′ list list″ from i m
-passing-step order x before buf buf′ list list′ list″ from i count m p v = go (v .entry)
+-- Position i has been visited after those from m on.
+visit-more : (order : ℕ) (x before buf buf′ list list′ list″ : List ℕ) (from i m count r : ℕ) → Passing order x before buf list list′ from m count →
+    m ≡ suc i → Visited order x buf buf′ list′ list″ i count r → Passing order x before buf′ list list″ from i r
+visit-more order x before buf buf′ list list′ list″ from i m count r p next v = go (v .entry)
   where
-    at-suc : i + 1 ≡ suc i
-    at-suc = omega arith
-
     lists : ListsDown (orderOf order) (letters 0 x) (length x) (endBound order (length x)) (suc i) (p .entries)
-    lists = subst (λ (t : ℕ). ListsDown (orderOf order) (letters 0 x) (length x) (endBound order (length x)) t (p .entries)) at-suc (p .lists)
+    lists = subst (λ (t : ℕ). ListsDown (orderOf order) (letters 0 x) (length x) (endBound order (length x)) t (p .entries)) next (p .lists)
 
     filled : Filled order x before buf′ i
     filled =
@@ -320,7 +321,7 @@ passing-step order x before buf buf′ list list′ list″ from i count m p v =
               };
         }
 
-    go : Listed order x list′ list″ i count m → Passing order x before buf′ list list″ from i m
+    go : Listed order x list′ list″ i count r → Passing order x before buf′ list list″ from i r
     go (skipped a b c) =
         record {
           filled = filled;
@@ -340,11 +341,34 @@ passing-step order x before buf buf′ list list′ list″ from i count m p v =
               sym (putAll-append list from (p .entries) (e ∷ []));
         }
 
+-- One position more has been visited.
+pub passing-step : (order : ℕ) (x before buf buf′ list list′ list″ : List ℕ) (from i count r : ℕ) → Passing order x before buf list list′ from i count →
+    0 < i → Visited order x buf buf′ list′ list″ (i - 1) count r → Passing order x before buf′ list list″ from (i - 1) r
+passing-step order x before buf buf′ list list′ list″ from i count r p h v =
+    visit-more order x before buf buf′ list list′ list″ from (i - 1) i count r p (omega arith) v
+
+-- Every position has been visited.
+pub passing-end : (order : ℕ) (x before buf list list′ : List ℕ) (from i count : ℕ) → Passing order x before buf list list′ from i count → i ≤ 0 →
+    Passing order x before buf list list′ from 0 count
+passing-end order x before buf list list′ from i count p h =
+    let z : i ≡ 0 = omega arith in
+    subst (λ (k : ℕ). Passing order x before buf list list′ from k count) z p
+
 -- There is room for one entry more.
-pub passing-room : (order : ℕ) (x before buf list list′ : List ℕ) (from i count : ℕ) → Passing order x before buf list list′ from i count → 0 < i →
+passing-room : (order : ℕ) (x before buf list list′ : List ℕ) (from i count : ℕ) → Passing order x before buf list list′ from i count → 0 < i →
     3 * from + 3 * length x ≤ length list → 3 * count + 3 ≤ length list′
 passing-room order x before buf list list′ from i count p h fits =
     omega (arith, p .counted, p .lists .size, ap length (p .content) ∙ putAll-length list from (p .entries))
+
+-- What visiting the position before i asks for.
+pub passing-ready : (order : ℕ) (x before buf list list′ : List ℕ) (from i count : ℕ) → Passing order x before buf list list′ from i count →
+    length x ≤ length before → length x ≤ maxLength → 0 < i → i ≤ length x → 3 * from + 3 * length x ≤ length list →
+    VisitReady order x buf list′ count (i - 1)
+passing-ready order x before buf list list′ from i count p fits small h q room =
+    record {
+      join = filled-ready order x before buf i (p .filled) fits small h q;
+      room = passing-room order x before buf list list′ from i count p h room;
+    }
 
 pub passing-length : (order : ℕ) (x before buf list list′ : List ℕ) (from i count : ℕ) → Passing order x before buf list list′ from i count →
     length list′ ≡ length list

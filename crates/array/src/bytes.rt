@@ -9,9 +9,8 @@ ghost use mathlib.Core.Path.{_≡_};
 ghost use Prim.Native.Nat.{_+_, _-_, _≤_, _<_};
 ghost use lib.ListN.{length};
 ghost use Rattle.answer.specs.Limits.{maxLength};
-ghost use Rattle.array.specs.Core.State.{RowsOf};
 ghost use Rattle.array.specs.Core.Order.{smallerIn};
-ghost use Rattle.array.specs.Core.Join.{JoinedTo};
+ghost use Rattle.array.specs.Core.Join.{JoinReady, JoinedTo};
 ghost use Rattle.array.specs.Core.Fill.{Filled};
 ghost use Rattle.array.specs.Calls.{arrayAnswer};
 ghost use Rattle.answer.specs.Checks.{written, contentAfter};
@@ -30,22 +29,23 @@ fn smaller(a: u8, b: u8, order: u32) -> bool
 
 // Joins to the letter at i the factors after it, as long as the word so far is smaller than the next factor.
 pub(crate) fn join(text: &[u8], order: u32, buf: &mut [u32], i: usize) -> Joined
-    requires { ⌜ (i < length (now text)) × (length (now text) ≤ length (now buf)) × (length (now text) ≤ maxLength) × RowsOf order (now text) (now buf) (i + 1) ⌝ }
+    requires { ⌜ JoinReady order (now text) (now buf) i ⌝ }
     ensures { λ r. ⌜ JoinedTo order (now (text .entry)) (now (buf .entry)) (now (buf .exit)) i r ⌝ }
 {
     let n = text.len();
     let mut j = i + 1;
     let mut k: usize = 0;
-    let mut g: usize = 0;
+    let mut part: usize = 0;
     while j < n {
-        let l = places::wide(buf[j]);
-        let d = j - i;
-        let s = places::remembered(buf, j, l);
+        // The lengths of the next factor and of the word so far, and what is remembered of the factor.
+        let factor = places::wide(buf[j]);
+        let word = j - i;
+        let known = places::remembered(buf, j, factor);
         // Compares the word so far with the next factor, from the letters that are known to agree. Where the word ends first, below is
         // settled, and the loop goes on only to measure how far they agree.
-        let c = loop {
-            if l <= k {
-                if d == l {
+        let outcome = loop {
+            if factor <= k {
+                if word == factor {
                     break Comparison::Same;
                 } else {
                     // The factor is a proper prefix of the word.
@@ -55,7 +55,7 @@ pub(crate) fn join(text: &[u8], order: u32, buf: &mut [u32], i: usize) -> Joined
             let a = text[i + k];
             let b = text[j + k];
             if a != b {
-                if d <= k {
+                if word <= k {
                     break Comparison::Below;
                 }
                 if smaller(a, b, order) {
@@ -64,32 +64,32 @@ pub(crate) fn join(text: &[u8], order: u32, buf: &mut [u32], i: usize) -> Joined
                 break Comparison::Above;
             }
             k += 1;
-            if k == d {
-                if d < l {
-                    if s < d {
+            if k == word {
+                if word < factor {
+                    if known < word {
                         break Comparison::Below;
                     }
-                    if d + places::wide(buf[j + d]) == l {
-                        k = d + s;
+                    if word + places::wide(buf[j + word]) == factor {
+                        k = word + known;
                         break Comparison::Below;
                     }
                 }
             }
         };
-        match c {
+        match outcome {
             Comparison::Below => {
-                places::restore(buf, j, l);
-                g = k;
-                if s < k {
-                    k = s;
+                places::restore(buf, j, factor);
+                part = k;
+                if known < k {
+                    k = known;
                 }
-                j += l;
+                j += factor;
             }
             Comparison::Same => {
                 return Joined {
                     end: j,
                     agreed: k,
-                    part: g,
+                    part,
                     stop: Comparison::Same,
                 };
             }
@@ -97,7 +97,7 @@ pub(crate) fn join(text: &[u8], order: u32, buf: &mut [u32], i: usize) -> Joined
                 return Joined {
                     end: j,
                     agreed: k,
-                    part: g,
+                    part,
                     stop: Comparison::Above,
                 };
             }
@@ -106,7 +106,7 @@ pub(crate) fn join(text: &[u8], order: u32, buf: &mut [u32], i: usize) -> Joined
     Joined {
         end: j,
         agreed: k,
-        part: g,
+        part,
         stop: Comparison::Above,
     }
 }

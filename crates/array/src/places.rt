@@ -1,9 +1,8 @@
 // The places of the output buffer while the array is being made: small functions that know nothing of letters.
 ghost use mathlib.Core.Path.{_≡_};
-ghost use Prim.Native.Nat.{_+_, _-_, _≤_, _<_, min};
+ghost use Prim.Native.Nat.{_+_, _≤_, min};
 ghost use lib.ListN.{length};
-ghost use Rattle.answer.specs.Limits.{maxLength};
-ghost use Rattle.array.specs.Core.State.{rememberedAt, restoredAt, storedAt};
+ghost use Rattle.array.specs.Core.State.{rememberedAt, restoredAt, StoreReady, storedAt};
 ghost use Rattle.array.specs.Core.Fill.{HasRows, AllRestored};
 
 // A stored number as a position.
@@ -46,7 +45,7 @@ pub(crate) fn restore(buf: &mut [u32], j: usize, l: usize)
 
 // Stores the length of the word from i to e, and s at its last place if it has two letters or more.
 pub(crate) fn store(buf: &mut [u32], i: usize, e: usize, s: usize)
-    requires { ⌜ (i < e) × (e ≤ length (now buf)) × (e ≤ maxLength) × (1 < e - i → s ≤ maxLength) ⌝ }
+    requires { ⌜ StoreReady (now buf) i e s ⌝ }
     ensures { λ r. ⌜ now (buf .exit) ≡ storedAt (now (buf .entry)) i e s ⌝ }
 {
     let l = e - i;

@@ -10,9 +10,8 @@ ghost use mathlib.Core.Path.{_≡_};
 ghost use Prim.Native.Nat.{_+_, _-_, _*_, _≤_, _<_};
 ghost use lib.ListN.{length};
 ghost use Rattle.answer.specs.Limits.{maxLength};
-ghost use Rattle.array.specs.Core.State.{RowsOf};
 ghost use Rattle.sorting.specs.Exchange.{put};
-ghost use Rattle.array.specs.Core.RunPass.{StoppedAt, ExtendedTo, LeftExtent, AtRoot, Listed, Visited, Passing, OrderDone, RunsFound};
+ghost use Rattle.array.specs.Core.RunPass.{StoppedAt, ExtendedTo, LeftExtent, AtRoot, Listed, VisitReady, Visited, Passing, OrderDone, RunsFound};
 ghost use Rattle.array.specs.Calls.{runsAnswer, runNumbers, bothArrays};
 ghost use Rattle.answer.specs.Checks.{contentAfter};
 
@@ -107,7 +106,7 @@ fn visit(
     count: usize,
     i: usize,
 ) -> usize
-    requires { ⌜ (i < length (now text)) × (length (now text) ≤ length (now buf)) × (length (now text) ≤ maxLength) × (3 * count + 3 ≤ length (now list)) × RowsOf order (now text) (now buf) (i + 1) ⌝ }
+    requires { ⌜ VisitReady order (now text) (now buf) (now list) count i ⌝ }
     ensures { λ r. ⌜ Visited order (now (text .entry)) (now (buf .entry)) (now (buf .exit)) (now (list .entry)) (now (list .exit)) i count r ⌝ }
 {
     let w = bytes::join(text, order, buf, i);

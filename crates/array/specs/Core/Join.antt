@@ -1,4 +1,4 @@
--- What the join loop hands back.
+-- What the join loop asks for and hands back.
 -- Assumes nothing.
 use mathlib.Core.Path.{_≡_}
 use mathlib.Core.List.{List}
@@ -8,7 +8,8 @@ use Rattle.words.specs.Letters.{Letters, orderOf}
 use Rattle.words.specs.Laws.SpanLyndon.{letters}
 use Rattle.words.specs.Laws.Position.{Agree, SpanLess}
 use Rattle.words.specs.Laws.SuffixOrder.{NextSmaller}
-use Rattle.array.specs.Core.State.{entryOf}
+use Rattle.answer.specs.Limits.{maxLength}
+use Rattle.array.specs.Core.State.{entryOf, RowsOf}
 use Rattle.array.specs.Core.Joining.{Joining}
 use Rattle.array.specs.declared.joined.Joined.{Joined}
 use Rattle.array.specs.declared.joined.Comparison.{Comparison}
@@ -25,6 +26,13 @@ Stopped order x i j k Same = (j < length x) × SameWord x i j (entryOf order x j
 Stopped order x i j k Above =
     j < length x →
     (¬ SameWord x i j (entryOf order x j)) × (k < entryOf order x j → ¬ (letters 0 x (i + k) ≡ letters 0 x (j + k)))
+
+-- What joining at position i asks for: the factors after it are in the buffer.
+pub record JoinReady (order : ℕ) (x buf : List ℕ) (i : ℕ) : Type 0 where
+  pub inside : i < length x
+  pub fits : length x ≤ length buf
+  pub small : length x ≤ maxLength
+  pub rows : RowsOf order x buf (i + 1)
 
 -- Only places after i and below n have changed.
 pub record ChangedAfter (before after : List ℕ) (i n : ℕ) : Type 0 where

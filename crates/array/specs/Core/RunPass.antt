@@ -17,7 +17,7 @@ use Rattle.answer.specs.Checks.{written}
 use Rattle.sorting.specs.Exchange.{put}
 use Rattle.array.specs.Calls.{runList, runNumbers, bothArrays}
 use Rattle.array.specs.Core.State.{entryOf, RowsOf}
-use Rattle.array.specs.Core.Join.{Stopped, Agreeing}
+use Rattle.array.specs.Core.Join.{JoinReady, Stopped, Agreeing}
 use Rattle.array.specs.Core.Fill.{KeptFrom, Filled}
 use Rattle.array.specs.declared.joined.Comparison.{Comparison}
 use Rattle.array.specs.declared.joined.Comparison.the-variants.{Below, Same, Above}
@@ -67,6 +67,11 @@ pub data Listed (order : ℕ) (x before after : List ℕ) (i count r : ℕ) : Ty
       Listed order x before after i count r
   listed : (e : Entry) → ListedEntry (orderOf order) (letters 0 x) (length x) (endBound order (length x)) i e → r ≡ count + 1 →
       after ≡ put before count e → Listed order x before after i count r
+
+-- What visiting position i asks for: joining, and room for one entry more.
+pub record VisitReady (order : ℕ) (x buf list : List ℕ) (count i : ℕ) : Type 0 where
+  pub join : JoinReady order x buf i
+  pub room : 3 * count + 3 ≤ length list
 
 -- Position i has been visited.
 pub record Visited (order : ℕ) (x before after list list′ : List ℕ) (i count r : ℕ) : Type 0 where

@@ -14,6 +14,7 @@ use Rattle.words.specs.Laws.SuffixOrder.{NextSmaller}
 use Rattle.words.specs.Laws.ArrayNext.{array-next}
 use Rattle.words.specs.Laws.Compared.{AllCompared, decided-compared}
 use Rattle.words.specs.Compute.LyndonArray.{arrayOf, arrayOf-holds}
+use Rattle.answer.specs.Limits.{maxLength}
 use Rattle.array.specs.Core.Joining.{Rows}
 
 -- The entry of the Lyndon array of x at t.
@@ -55,6 +56,13 @@ pickList false a b = b
 -- The buffer after the last place of that factor has its entry 1 back.
 abbrev pub restoredAt : List ℕ → ℕ → ℕ → List ℕ
 restoredAt buf j l = pickList (ltb 1 l) (set buf (j + l - 1) 1) buf
+
+-- What storing asks for: the word from i to e lies inside the buffer, and s fits where it is stored.
+pub record StoreReady (buf : List ℕ) (i e s : ℕ) : Type 0 where
+  pub after : i < e
+  pub inside : e ≤ length buf
+  pub small : e ≤ maxLength
+  pub stored : 1 < e - i → s ≤ maxLength
 
 -- The buffer after the length of the word from i to e is stored, and s at its last place.
 abbrev pub storedAt : List ℕ → ℕ → ℕ → ℕ → List ℕ
