@@ -20,11 +20,11 @@ use Rattle.sorting.specs.Exchange.{put}
 use Rattle.sorting.specs.Triples.{AfterSort}
 use Rattle.sorting.specs.RunList.{RunsSorted, runs-sorted, sorted-member, member-sorted, sorted-length}
 use Rattle.array.specs.Calls.{runList, runNumbers, bothArrays}
-use Rattle.array.specs.Core.State.{letters-compared}
+use Rattle.array.proofs.Entries.{letters-compared}
 use Rattle.array.specs.Core.RunPass.{putAll, Passing, OrderDone, RunsFound}
 use Rattle.array.specs.Core.Fill.{AllRestored}
-use Rattle.array.proofs.FillLaws.{array-written}
-use Rattle.array.proofs.RunLaws.{putAll-append, putAll-length}
+use Rattle.array.proofs.ArrayWritten.{array-written}
+use Rattle.array.proofs.PutAll.{putAll-append, putAll-length}
 
 -- One entry put behind k others.
 put-behind : (p q : List ℕ) (k a b c : ℕ) (r : Entry) → length p ≡ 3 * k → put (p ++ (a ∷ b ∷ c ∷ q)) k r ≡ (p ++ numbers (r ∷ [])) ++ q

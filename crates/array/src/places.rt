@@ -2,7 +2,7 @@
 ghost use mathlib.Core.Path.{_≡_};
 ghost use Prim.Native.Nat.{_+_, _≤_, min};
 ghost use lib.ListN.{length};
-ghost use Rattle.array.specs.Core.State.{rememberedAt, restoredAt, StoreReady, storedAt};
+ghost use Rattle.array.specs.Core.Place.{rememberedAt, restoredAt, StoreReady, storedAt};
 ghost use Rattle.array.specs.Core.Fill.{HasRows, AllRestored};
 
 // A stored number as a position.

@@ -11,7 +11,8 @@ ghost use Prim.Native.Nat.{_+_, _-_, _*_, _≤_, _<_};
 ghost use lib.ListN.{length};
 ghost use Rattle.answer.specs.Limits.{maxLength};
 ghost use Rattle.sorting.specs.Exchange.{put};
-ghost use Rattle.array.specs.Core.RunPass.{StoppedAt, ExtendedTo, LeftExtent, AtRoot, Listed, VisitReady, Visited, Passing, OrderDone, RunsFound};
+ghost use Rattle.array.specs.Core.RunExtent.{StoppedAt, ExtendedTo, LeftExtent, AtRoot};
+ghost use Rattle.array.specs.Core.RunPass.{Listed, VisitReady, Visited, Passing, OrderDone, RunsFound};
 ghost use Rattle.array.specs.Calls.{runsAnswer, runNumbers, bothArrays};
 ghost use Rattle.answer.specs.Checks.{contentAfter};
 

@@ -3,7 +3,7 @@
 use borrow.Author.Needs.{needs}
 use Prim.Native.Nat.{_-_}
 use lib.ListN.{length}
-use Rattle.array.specs.CommonPrefix.{AlikeBelow, alike-none, alike-more, alike-differs, alike-left-ends, alike-right-ends}
+use Rattle.array.proofs.CommonPrefixLaws.{AlikeBelow, alike-none, alike-more, alike-differs, alike-left-ends, alike-right-ends}
 use Rattle.array.proofs.agreement.common_prefix.Statement.{statement}
 use Rattle.array.proofs.agreement.common_prefix.Tie as tie
 

@@ -1,6 +1,6 @@
 -- `array::bytes::compute` meets its contract: the rows are filled, and then every last place has its entry back.
 -- Assumes nothing.
-use Rattle.array.proofs.FillLaws.{filled-rows, array-written}
+use Rattle.array.proofs.ArrayWritten.{filled-rows, array-written}
 use borrow.Author.Needs.{needs}
 use Rattle.array.proofs.bytes.compute.Statement.{statement}
 use Rattle.array.proofs.bytes.compute.Tie as tie

@@ -8,10 +8,15 @@ use Prim.Native.Nat.{ℕ, _+_, _-_, _<_, _≤_}
 use lib.ListN.{length, getD}
 use Rattle.words.specs.Laws.SpanLyndon.{letters}
 use Rattle.words.specs.Laws.Position.{Agree}
-use Rattle.array.specs.Core.State.{entryOf, entry-next}
-use Rattle.array.specs.Core.Join.{JoinLoop, Agreeing, Compared}
+use Rattle.array.specs.Core.Rows.{entryOf}
+use Rattle.array.proofs.Entries.{entry-next}
+use Rattle.array.specs.Core.Join.{Agreeing}
+use Rattle.array.proofs.Comparing.{JoinLoop}
+use Rattle.array.proofs.ComparisonEnds.{Compared}
 use Rattle.array.specs.declared.joined.Comparison.{Comparison}
-use Rattle.array.proofs.JoinLaws.{Comparing, comparing, factor-fits, ended-same, ended-above, past-below, letter-below, letter-above, agree-more, word-below, leap-below, join-start, join-step, agreeing-start, joined-same, joined-above, joined-end}
+use Rattle.array.proofs.Comparing.{Comparing, comparing, factor-fits, agreeing-start}
+use Rattle.array.proofs.ComparisonEnds.{ended-same, ended-above, past-below, letter-below, letter-above, agree-more, word-below, leap-below}
+use Rattle.array.proofs.JoinSteps.{join-start, join-step, joined-same, joined-above, joined-end}
 use Rattle.array.proofs.bytes.join.Statement.{statement}
 use Rattle.array.proofs.bytes.join.Tie as tie
 

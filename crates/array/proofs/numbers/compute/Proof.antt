@@ -1,6 +1,6 @@
 -- `array::numbers::compute` meets its contract: the rows are filled, and then every last place has its entry back.
 -- Assumes nothing.
-use Rattle.array.proofs.FillLaws.{filled-rows, array-written}
+use Rattle.array.proofs.ArrayWritten.{filled-rows, array-written}
 use borrow.Author.Needs.{needs}
 use Rattle.array.proofs.numbers.compute.Statement.{statement}
 use Rattle.array.proofs.numbers.compute.Tie as tie

@@ -5,7 +5,7 @@ use native.Mathlib.Omega.{arith}
 use Prim.Native.Nat.{_≤_}
 use lib.ListN.{length}
 use Rattle.array.specs.Core.Fill.{Filled}
-use Rattle.array.proofs.FillLaws.{filled-start, filled-ready, filled-store-ready, filled-step, filled-end}
+use Rattle.array.proofs.Filling.{filled-start, filled-ready, filled-store-ready, filled-step, filled-end}
 use Rattle.array.proofs.numbers.fill.Statement.{statement}
 use Rattle.array.proofs.numbers.fill.Tie as tie
 

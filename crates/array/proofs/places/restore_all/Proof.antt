@@ -3,8 +3,8 @@
 use borrow.Author.Needs.{needs}
 use native.Mathlib.Omega.{arith}
 use Prim.Native.Nat.{_-_}
-use Rattle.array.specs.Core.Fill.{RestoredBelow}
-use Rattle.array.proofs.FillLaws.{FactorAt, restored-start, factor-at, restored-step, all-restored}
+use Rattle.array.proofs.Restoring.{RestoredBelow}
+use Rattle.array.proofs.Restoring.{FactorAt, restored-start, factor-at, restored-step, all-restored}
 use Rattle.array.proofs.places.restore_all.Statement.{statement}
 use Rattle.array.proofs.places.restore_all.Tie as tie
 

@@ -1,7 +1,7 @@
 -- `array::runs::extended` meets its contract: each case by the comparison that stopped the joining.
 -- Assumes nothing.
 use native.Mathlib.Omega.{arith}
-use Rattle.array.proofs.RunLaws.{extended-end, extended-letter, extended-further, further-fits, extended-same, extended-below}
+use Rattle.array.proofs.Extension.{extended-end, extended-letter, extended-further, further-fits, extended-same, extended-below}
 use Rattle.array.specs.Core.Join.{Agreeing}
 use borrow.Author.Needs.{needs}
 use Rattle.array.proofs.runs.extended.Statement.{statement}

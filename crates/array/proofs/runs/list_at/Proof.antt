@@ -4,7 +4,7 @@ use native.Mathlib.Omega.{arith}
 use mathlib.Core.Logic.{⊎-elim}
 use Prim.Native.Nat.{_+_, _<_}
 use lib.ListN.{length}
-use Rattle.array.proofs.RunLaws.{too-short, at-text-end, run-found}
+use Rattle.array.proofs.RunEntry.{too-short, at-text-end, run-found}
 use borrow.Author.Needs.{needs}
 use Rattle.array.proofs.runs.list_at.Statement.{statement}
 use Rattle.array.proofs.runs.list_at.Tie as tie

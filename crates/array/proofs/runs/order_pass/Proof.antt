@@ -1,6 +1,6 @@
 -- `array::runs::order_pass` meets its contract: all positions are visited, and then every last place has its entry back.
 -- Assumes nothing.
-use Rattle.array.proofs.FillLaws.{filled-rows}
+use Rattle.array.proofs.ArrayWritten.{filled-rows}
 use Rattle.array.proofs.RunsFound.{order-done}
 use borrow.Author.Needs.{needs}
 use Rattle.array.proofs.runs.order_pass.Statement.{statement}

@@ -5,7 +5,7 @@ use native.Mathlib.Omega.{arith}
 use Prim.Native.Nat.{_≤_}
 use lib.ListN.{length}
 use Rattle.array.specs.Core.RunPass.{Passing}
-use Rattle.array.proofs.RunLaws.{passing-start, passing-ready, passing-step, passing-end, passing-length}
+use Rattle.array.proofs.PassLaws.{passing-start, passing-ready, passing-step, passing-end, passing-length}
 use Rattle.array.proofs.runs.pass.Statement.{statement}
 use Rattle.array.proofs.runs.pass.Tie as tie
 

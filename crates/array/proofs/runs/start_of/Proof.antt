@@ -2,7 +2,7 @@
 -- Assumes nothing.
 use borrow.Author.Needs.{needs}
 use native.Mathlib.Omega.{arith}
-use Rattle.array.proofs.RunLaws.{LeftSoFar, left-start, left-more, left-stop, left-end}
+use Rattle.array.proofs.LeftExtension.{LeftSoFar, left-start, left-more, left-stop, left-end}
 use Rattle.array.proofs.runs.start_of.Statement.{statement}
 use Rattle.array.proofs.runs.start_of.Tie as tie
 

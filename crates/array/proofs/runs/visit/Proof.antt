@@ -1,7 +1,7 @@
 -- `array::runs::visit` meets its contract: the word is joined and stored, and its run listed where the comparison said above.
 -- Assumes nothing.
-use Rattle.array.proofs.FillLaws.{store-ready}
-use Rattle.array.proofs.RunLaws.{stopped-at, at-root, same-not-listed, never-below, visited}
+use Rattle.array.proofs.Filling.{store-ready}
+use Rattle.array.proofs.Visiting.{stopped-at, at-root, same-not-listed, never-below, visited}
 use borrow.Author.Needs.{needs}
 use Rattle.array.proofs.runs.visit.Statement.{statement}
 use Rattle.array.proofs.runs.visit.Tie as tie

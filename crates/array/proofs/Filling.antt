@@ -1,26 +1,27 @@
--- Storing, restoring and finishing, for the buffer as a list.
+-- Filling the buffer from the last position on.
 -- Assumes nothing.
-use mathlib.Core.Path.{_≡_, refl, sym, ap, subst, _∙_}
+use mathlib.Core.Path.{_≡_, refl, subst, _∙_}
+use mathlib.Core.List.{List}
 use mathlib.Core.Logic.{_⊎_, inl, inr}
-use mathlib.Core.List.{List, [], _++_}
-use Prim.Native.Nat.{ℕ, zero, suc, _+_, _-_, _<_, _≤_, min}
+use Prim.Native.Nat.{ℕ, suc, _+_, _<_, _≤_, _-_, min}
+use native.Mathlib.Decide.{decLt}
 use native.Mathlib.Omega.{arith}
-use native.Mathlib.Decide.{decLt, ℕ-discrete}
-use lib.ListN.{length, getD, set, take, drop, length-set, length-drop, take-append-drop}
-use lib.Seq.{getD-set-same, getD-set-other, getD-take, getD-drop, ext-getD, length-take-le}
+use lib.ListN.{length, getD, set, length-set}
+use lib.Seq.{getD-set-same, getD-set-other}
 use borrow.Author.Tests.{lt-ltb, le-ltb}
-use Rattle.words.specs.Letters.{orderOf, decided-order}
 use Rattle.words.specs.Laws.SpanLyndon.{letters}
 use Rattle.words.specs.Laws.SuffixOrder.{NextSmaller}
-use Rattle.words.specs.Compute.LyndonArray.{arrayOf, arrayOf-holds}
+use Rattle.words.specs.Letters.{orderOf}
 use Rattle.answer.specs.Limits.{maxLength}
-use Rattle.answer.specs.Checks.{written}
 use Rattle.array.specs.declared.joined.Joined.{Joined}
-use Rattle.array.specs.Core.State.{entryOf, entry-next, entries-array, RowsOf, restoredAt, StoreReady, storedAt}
-use Rattle.array.specs.Core.Joining.{Rows, Joining, LastPart, Restoring, finished, agreement-short, joining-store, restoring-start, restoring-step}
+use Rattle.array.specs.Core.Fill.{Filled}
 use Rattle.array.specs.Core.Join.{JoinReady, ChangedAfter, JoinedTo}
-use Rattle.array.specs.Core.Fill.{KeptFrom, Filled, HasRows, RestoredBelow, AllRestored}
-use Rattle.array.proofs.JoinLaws.{entry-own, restored-kept, restored-one, restored-length}
+use Rattle.array.specs.Core.Joining.{LastPart, Joining}
+use Rattle.array.specs.Core.Place.{StoreReady, storedAt}
+use Rattle.array.specs.Core.Rows.{finished, entryOf, RowsOf}
+use Rattle.array.proofs.Entries.{entry-next}
+use Rattle.array.proofs.JoiningLaws.{joining-store}
+use Rattle.array.proofs.Known.{agreement-short}
 
 -- Nothing is filled before the first position.
 pub filled-start : (order : ℕ) (x buf : List ℕ) → Filled order x buf buf (length x)
@@ -37,7 +38,7 @@ stored-small order x before buf i s r w h l = go (w .joining .joined)
         omega (
           arith,
           w .joining .inside,
-          agreement-short (orderOf order) (letters 0 x) (length x) (entryOf order x) (entry-next order x) i (r .end) (p .part) (r .part)
+          agreement-short (orderOf order) (letters 0 x) i (r .end) (p .part) (r .part)
               (w .joining .lyndon) (p .after) (p .before) (p .agree),
         )
 
@@ -154,91 +155,3 @@ filled-step order x before₀ before joined after i s r f p fits w e stored =
 -- Every position has been joined.
 pub filled-end : (order : ℕ) (x before buf : List ℕ) (i : ℕ) → Filled order x before buf i → i ≤ 0 → Filled order x before buf 0
 filled-end order x before buf i f h = let z : i ≡ 0 = omega arith in subst (λ (k : ℕ). Filled order x before buf k) z f
-
--- Nothing is restored yet.
-pub restored-start : (buf : List ℕ) (n : ℕ) → RestoredBelow buf buf n 0
-restored-start buf n =
-    record {
-      others = record { size = refl; kept = λ t h. refl };
-      restoring =
-          λ order x e r. restoring-start (orderOf order) (letters 0 x) (length x) (entryOf order x) (entry-next order x) (letters 0 buf) r;
-    }
-
--- The factor at j, of length l.
-pub record FactorAt (buf : List ℕ) (n j l : ℕ) : Type 0 where
-  pub positive : 0 < l
-  pub ends : j + l ≤ n
-  pub inside : n ≤ length buf
-
-pub factor-at : (before buf : List ℕ) (n j l : ℕ) → HasRows before n → RestoredBelow before buf n j → j < n → l ≡ getD buf j 0 → FactorAt buf n j l
-factor-at before buf n j l h w q e =
-    let r = w .restoring (h .order) (h .text) (h .size) (h .rows) in
-    let m : j < length (h .text) = omega (arith, h .size) in
-    let o : l ≡ entryOf (h .order) (h .text) j = e ∙ entry-own (h .order) (h .text) buf j m (r .rows) in
-    let nj = entry-next (h .order) (h .text) j m in
-    record {
-      positive = omega (arith, nj .after);
-      ends = omega (arith, nj .inside, h .size);
-      inside = omega (arith, h .inside, w .others .size);
-    }
-
-pub restored-step : (before buf after : List ℕ) (n j l : ℕ) → HasRows before n → RestoredBelow before buf n j → j < n → l ≡ getD buf j 0 →
-    after ≡ restoredAt buf j l → RestoredBelow before after n (j + l)
-restored-step before buf after n j l h w q e changed =
-    let f = factor-at before buf n j l h w q e in
-    rw changed
-    (record {
-      others =
-          record {
-            size = restored-length buf j l ∙ w .others .size;
-            kept = λ t p. restored-kept buf j l t (λ z. omega (arith, f .ends)) ∙ w .others .kept t p;
-          };
-      restoring = λ order x ex r. step f order x ex (w .restoring order x ex r);
-    })
-  where
-    step : FactorAt buf n j l → (order : ℕ) (x : List ℕ) → length x ≡ n → Restoring (letters 0 x) (length x) (entryOf order x) (letters 0 buf) j →
-        Restoring (letters 0 x) (length x) (entryOf order x) (letters 0 (restoredAt buf j l)) (j + l)
-    step f order x ex r =
-        let m : j < length x = omega (arith, ex) in
-        let o : l ≡ entryOf order x j = e ∙ entry-own order x buf j m (r .rows) in
-        subst (λ (k : ℕ). Restoring (letters 0 x) (length x) (entryOf order x) (letters 0 (restoredAt buf j l)) (j + k)) (sym o)
-        (restoring-step (orderOf order) (letters 0 x) (length x) (entryOf order x) (entry-next order x) (letters 0 buf) (letters 0 (restoredAt buf j l)) j r m
-        (λ t p z. restored-kept buf j l t (λ y. z (omega arith)))
-        (λ t z.
-        restored-one buf j l t (omega (arith, f .ends, f .inside))
-        (λ g.
-        let y : t ≡ j = omega (arith, f .positive) in
-        ap (λ (u : ℕ). getD buf u 0) y ∙ sym e ∙ omega (arith, f .positive)) (omega arith)))
-
-pub all-restored : (before buf : List ℕ) (n j : ℕ) → RestoredBelow before buf n j → n ≤ j → AllRestored before buf n
-all-restored before buf n j w h =
-    record { others = w .others; final = λ order x e r t p. w .restoring order x e r .final t (omega arith) }
-
--- The buffer holds the array, and its other places keep their content.
-pub array-written : (order : ℕ) (x before buf after : List ℕ) → length x ≤ length before → Filled order x before buf 0 → AllRestored buf after (length x) →
-    after ≡ written (arrayOf (decided-order order) x) before
-array-written order x before buf after fits f r =
-    sym (take-append-drop (length x) after) ∙ ap (λ (l : List ℕ). l ++ drop (length x) after) front ∙
-    ap (λ (l : List ℕ). arrayOf (decided-order order) x ++ l) back ∙
-    ap (λ (m : ℕ). arrayOf (decided-order order) x ++ drop m before) (sym (arrayOf-holds (decided-order order) x .size))
-  where
-    size : length after ≡ length before
-    size = r .others .size ∙ f .others .size
-
-    front : take (length x) after ≡ arrayOf (decided-order order) x
-    front =
-        entries-array order x (take (length x) after) (length-take-le (length x) after (omega (arith, size)))
-        (λ t p. getD-take (length x) after t 0 p ∙ r .final order x refl (f .rows) t p)
-
-    back : drop (length x) after ≡ drop (length x) before
-    back =
-        ext-getD 0 (drop (length x) after) (drop (length x) before)
-        (length-drop (length x) after ∙ ap (λ (m : ℕ). m - length x) size ∙ sym (length-drop (length x) before))
-        (λ t p.
-        getD-drop (length x) after t 0 ∙ r .others .kept (length x + t) (omega arith) ∙ f .others .kept (length x + t) (omega arith) ∙
-        sym (getD-drop (length x) before t 0))
-
--- The rows that a filled buffer holds.
-pub filled-rows : (order : ℕ) (x before buf : List ℕ) → length x ≤ length before → Filled order x before buf 0 → HasRows buf (length x)
-filled-rows order x before buf fits f =
-    record { order = order; text = x; size = refl; inside = omega (arith, f .others .size); rows = f .rows }
