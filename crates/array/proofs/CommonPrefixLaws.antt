@@ -73,11 +73,15 @@ alike-more u v k w p q e = record { in-left = omega arith; in-right = omega arit
     at t h (yes l) = w .alike t l
     at t h (no l) = let z : k ≡ t = omega (arith, l) in subst (λ (m : ℕ). getD u m 0 ≡ getD v m 0) z e
 
-pub alike-left-ends : (u v : List ℕ) (k : ℕ) → AlikeBelow u v k → length u ≤ k → k ≡ commonPrefix u v
-alike-left-ends u v k w h = agreement-is u v k (record { in-left = w .in-left; in-right = w .in-right; alike = w .alike; differ = λ p q. absurd (omega arith) })
-
-pub alike-right-ends : (u v : List ℕ) (k : ℕ) → AlikeBelow u v k → length v ≤ k → k ≡ commonPrefix u v
-alike-right-ends u v k w h = agreement-is u v k (record { in-left = w .in-left; in-right = w .in-right; alike = w .alike; differ = λ p q. absurd (omega arith) })
+-- The number is reached where a letter differs or a word ends.
+alike-is : (u v : List ℕ) (k : ℕ) → AlikeBelow u v k → (k < length u → k < length v → ¬ (getD u k 0 ≡ getD v k 0)) → k ≡ commonPrefix u v
+alike-is u v k w d = agreement-is u v k (record { in-left = w .in-left; in-right = w .in-right; alike = w .alike; differ = d })
 
 pub alike-differs : (u v : List ℕ) (k : ℕ) → AlikeBelow u v k → ¬ (getD u k 0 ≡ getD v k 0) → k ≡ commonPrefix u v
-alike-differs u v k w d = agreement-is u v k (record { in-left = w .in-left; in-right = w .in-right; alike = w .alike; differ = λ p q. d })
+alike-differs u v k w d = alike-is u v k w (λ p q. d)
+
+pub alike-left-ends : (u v : List ℕ) (k : ℕ) → AlikeBelow u v k → length u ≤ k → k ≡ commonPrefix u v
+alike-left-ends u v k w h = alike-is u v k w (λ p q. absurd (omega arith))
+
+pub alike-right-ends : (u v : List ℕ) (k : ℕ) → AlikeBelow u v k → length v ≤ k → k ≡ commonPrefix u v
+alike-right-ends u v k w h = alike-is u v k w (λ p q. absurd (omega arith))

@@ -30,7 +30,7 @@ pub known-remembered : (order : ℕ) (x buf : List ℕ) (j : ℕ) → j < length
 known-remembered order x buf j l r = go (decLt 1 (entryOf order x j))
   where
     f : Front (letters 0 x) (length x) (entryOf order x) (letters 0 buf) j
-    f = front (letters 0 x) (length x) (entryOf order x) (letters 0 buf) j l r
+    f = front l r
 
     go : Dec (1 < entryOf order x j) → Known (letters 0 x) (length x) (entryOf order x) (letters 0 buf) j (rememberedAt buf j (entryOf order x j))
     go (yes h) =
@@ -38,11 +38,11 @@ known-remembered order x buf j l r = go (decLt 1 (entryOf order x j))
         let e : m .last ≡ j + entryOf order x j - 1 = omega (arith, m .last-is) in
         simp (lt-ltb _ _ h)
         (subst (λ (t : ℕ). Known (letters 0 x) (length x) (entryOf order x) (letters 0 buf) j (getD buf t 0)) e
-        (known-word (orderOf order) (letters 0 x) (length x) (entryOf order x) (entry-next order x) (letters 0 buf) j m))
+        (known-word (entry-next order x) m))
     go (no h) =
         let e : entryOf order x j ≤ 1 = omega (arith, h) in
         simp (le-ltb _ _ e)
-        (known-letter (orderOf order) (letters 0 x) (length x) (entryOf order x) (entry-next order x) (letters 0 buf) j l
+        (known-letter l
         (omega (arith, entry-next order x j l .after)))
 
 -- The factor at j lies inside the buffer.

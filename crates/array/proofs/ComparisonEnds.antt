@@ -41,13 +41,13 @@ module _ {order : ℕ} {x before buf : List ℕ} {i j k₀ g₀ l s : ℕ} (w : 
       go : Dec (j - i < l) → i + l ≤ j
       go (yes q) =
           absurd
-          (never-past (orderOf order) (letters 0 x) (length x) (entryOf order x) (entry-next order x) i j (j - i) (w .inside)
+          (never-past (entryOf order x) (entry-next order x) i j (j - i) (w .inside)
           (omega (arith, w .after)) (omega (arith, w .after)) (omega (arith, w .is-length)) (reached h g))
       go (no q) = omega (arith, q, w .after)
 
   prefix-next : l ≤ k → Agreeing x i j k → NextSmaller (orderOf order) (letters 0 x) (length x) i j
   prefix-next h g =
-      leave-prefix (orderOf order) (letters 0 x) (length x) (entryOf order x) (entry-next order x) (letters-compared order x) i j (w .loop .joining .lyndon) (w .inside)
+      leave-prefix (entryOf order x) (entry-next order x) (letters-compared order x) (w .loop .joining .lyndon) (w .inside)
       (omega (arith, no-shorter h g, w .is-length)) (reached h g)
 
   -- The factor ended without a difference, and is as long as the word.
@@ -78,7 +78,7 @@ module _ {order : ℕ} {x before buf : List ℕ} {i j k₀ g₀ l s : ℕ} (w : 
       let less : Smaller (orderOf order) b a = smallerIn-above order a b d e in
       let differ : ¬ (letters 0 x (i + k) ≡ letters 0 x (j + k)) = λ z. d (p ∙ z ∙ sym q) in (
         g,
-        leave-letter (orderOf order) (letters 0 x) (length x) (entryOf order x) (entry-next order x) i j k (w .loop .joining .lyndon) (omega (arith, w .ends)) (g .agree)
+        leave-letter k (w .loop .joining .lyndon) (omega (arith, w .ends)) (g .agree)
             (rw (q, p) at less),
         λ q′. (λ z. differ (z .1 k (omega (arith, w .is-length))), λ q″. differ),
       )
@@ -92,7 +92,7 @@ module _ {order : ℕ} {x before buf : List ℕ} {i j k₀ g₀ l s : ℕ} (w : 
       Compared order x i j (j - i + s) Below
   leap-below g e h q m =
       let r =
-      shortcut (orderOf order) (letters 0 x) (length x) (entryOf order x) (entry-next order x) (letters 0 buf) i j (j - i) s (w .loop .joining .lyndon) (w .inside)
+      shortcut (entry-next order x) (j - i) (w .loop .joining .lyndon) (w .inside)
       (omega (arith, w .after)) (agree-less (letters 0 x) i j k (j - i) (g .agree) (omega arith)) (w .known) q (m ∙ w .is-length) in
       (record { agree = r .0; within = omega (arith, w .ends, w .is-length, r .1) }, word-below g e h .1)
 

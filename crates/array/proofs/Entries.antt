@@ -32,4 +32,4 @@ entries-array order x l e h =
     ext-getD 0 l (arrayOf (decided-order order) x) (e ∙ sym (arrayOf-holds (decided-order order) x .size)) (λ i p. h i (omega arith))
 
 pub entry-own : (order : ℕ) (x buf : List ℕ) (j : ℕ) → j < length x → RowsOf order x buf j → getD buf j 0 ≡ entryOf order x j
-entry-own order x buf j l r = front (letters 0 x) (length x) (entryOf order x) (letters 0 buf) j l r .own
+entry-own order x buf j l r = front l r .own

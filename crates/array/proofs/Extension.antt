@@ -61,7 +61,8 @@ module _ (x buf : List ℕ) (i j k : ℕ) where
       at t q (no h) =
           let u : i + k + (t - k) ≡ i + t = omega (arith, h) in
           let v : j + k + (t - k) ≡ j + t = omega (arith, h) in
-          sym (ap (letters 0 x) u) ∙ sym (getD-drop (i + k) x (t - k) 0) ∙ f .alike (t - k) (omega (arith, h)) ∙ getD-drop (j + k) x (t - k) 0 ∙ ap (letters 0 x) v
+          sym (ap (letters 0 x) u) ∙ sym (getD-drop (i + k) x (t - k) 0) ∙ f .alike (t - k) (omega (arith, h)) ∙
+          getD-drop (j + k) x (t - k) 0 ∙ ap (letters 0 x) v
 
   pub extended-letter : (stop : Comparison) → stop ≡ Above → StoppedAt x buf i j k stop → j < length x → (m : ℕ) → m ≡ getD buf j 0 → k < m →
       ExtendedTo x i j k stop

@@ -90,8 +90,7 @@ filled-store order x before₀ before after i e k g s f fits changed joining nex
         simp (lt-ltb _ _ l)
         (record {
           rows =
-              joining-store (orderOf order) (letters 0 x) (length x) (entryOf order x) (entry-next order x) (letters 0 after)
-              (letters 0 (set (set after i (e - i)) (e - 1) s)) i e k g s joining next
+              joining-store (entry-next order x) joining next
               (own′ l) a b
               (λ t h z.
               subst (λ (u : ℕ). getD (set (set after i (e - i)) (e - 1) s) u 0 ≡ s) (last t z)
@@ -124,8 +123,7 @@ filled-store order x before₀ before after i e k g s f fits changed joining nex
         simp (le-ltb _ _ m)
         (record {
           rows =
-              joining-store (orderOf order) (letters 0 x) (length x) (entryOf order x) (entry-next order x) (letters 0 after)
-              (letters 0 (set after i (e - i))) i e k g s joining next
+              joining-store (entry-next order x) joining next
               own″ a b (λ t h z. absurd (omega (arith, l)))
               (λ t h m′ z. getD-set-other after i t (e - i) 0 (λ y. omega arith));
           others =

@@ -35,7 +35,7 @@ join-step {order} {x} {buf = buf} {i = i} {j} {k₀} {g₀} {s = s} {k = k} {k�
                 λ t h. restored-kept buf j m t (λ e. h (omega (arith, w .after, nj .after), omega (arith, nj .inside))) ∙ w .loop .changed .kept t h;
           };
       joining =
-          joining-step (orderOf order) (letters 0 x) (length x) (entryOf order x) (entry-next order x) (letters 0 buf) (letters 0 (restoredAt buf j m)) i j k₀ g₀ k s k′
+          joining-step (entry-next order x)
           (w .loop .joining) (w .inside) (w .known) (c .0 .agree) (c .1) a b (λ t p h. restored-kept buf j m t h)
           (λ t e.
           restored-one buf j m t (omega (arith, nj .inside, w .fits))
@@ -61,7 +61,7 @@ join-start {order} {x} {buf} {i} l r =
     (record {
       changed = record { size = refl; kept = λ t h. refl };
       joining =
-          joining-start (orderOf order) (letters 0 x) (length x) (entryOf order x) (entry-next order x) (letters 0 buf) i l
+          joining-start l
           (subst (λ (j : ℕ). RowsOf order x buf j) e r);
     })
 
@@ -73,7 +73,7 @@ joined-stopped {order} {x} {buf = buf} {i = i} {j} {k₀} {g₀} {k = k} w c =
     record {
       changed = w .loop .changed;
       joining =
-          joining-agreed (orderOf order) (letters 0 x) (length x) (entryOf order x) (entry-next order x) (letters 0 buf) i j k₀ k g₀ (w .loop .joining)
+          joining-agreed (w .loop .joining)
           (λ q. c .0 .agree) (λ q. c .0 .within);
       next = c .1;
       stopped = c .2;
@@ -99,7 +99,7 @@ joined-end {order} {x} {i = i} {j} w h =
       joining = w .joining;
       next =
           subst (λ (m : ℕ). NextSmaller (orderOf order) (letters 0 x) (length x) i m) e
-          (leave-end (orderOf order) (letters 0 x) (length x) (entryOf order x) (entry-next order x) i
+          (leave-end
           (subst (λ (m : ℕ). SpanLyndon (orderOf order) (letters 0 x) i m) (sym e) (w .joining .lyndon)));
       stopped = λ q. absurd (omega arith);
     }

@@ -15,46 +15,48 @@ use Rattle.array.proofs.Known.{Known}
 use Rattle.array.proofs.LastPlace.{restored-factor}
 use Rattle.array.proofs.RowLaws.{Front, rows-same, front}
 
-module _ {A : Type 0} (O : Letters A) (x : ℕ → A) (n : ℕ) (lam : ℕ → ℕ) (next : (t : ℕ) → t < n → NextSmaller O x n t (t + lam t)) where
-  -- A single letter, before anything is joined to it.
-  pub joining-start : (buf : ℕ → ℕ) (i : ℕ) → i < n → Rows x n lam buf (suc i) → Joining O x n lam buf i (suc i) 0 0
-  joining-start buf i l r =
-      record {
-        lyndon = record { non-empty = omega arith; below = λ k p q. absurd (omega arith) };
-        inside = l;
-        covered = λ t p q. absurd (omega arith);
-        inner = λ t p q. absurd (omega arith);
-        rows = r;
-        agree = λ m k h. absurd (omega arith);
-        within = λ m. omega arith;
-        joined = inl refl;
-      }
+-- A single letter, before anything is joined to it.
+pub joining-start : {A : Type 0} {O : Letters A} {x : ℕ → A} {n : ℕ} {lam buf : ℕ → ℕ} {i : ℕ} → i < n → Rows x n lam buf (suc i) → Joining O x n lam buf i (suc i) 0 0
+joining-start l r =
+    record {
+      lyndon = record { non-empty = omega arith; below = λ k p q. absurd (omega arith) };
+      inside = l;
+      covered = λ t p q. absurd (omega arith);
+      inner = λ t p q. absurd (omega arith);
+      rows = r;
+      agree = λ m k h. absurd (omega arith);
+      within = λ m. omega arith;
+      joined = inl refl;
+    }
 
-  -- The same, once more letters are known to agree.
-  pub joining-agreed : (buf : ℕ → ℕ) (i j k₀ k g : ℕ) → Joining O x n lam buf i j k₀ g → (j < n → Agree x i j k) → (j < n → j + k ≤ n) → Joining O x n lam buf i j k g
-  joining-agreed buf i j k₀ k g w a b =
-      record {
-        lyndon = w .lyndon;
-        inside = w .inside;
-        covered = w .covered;
-        inner = w .inner;
-        rows = w .rows;
-        agree = a;
-        within = b;
-        joined = w .joined;
-      }
+-- The same, once more letters are known to agree.
+pub joining-agreed : {A : Type 0} {O : Letters A} {x : ℕ → A} {n : ℕ} {lam buf : ℕ → ℕ} {i j k₀ k g : ℕ} → Joining O x n lam buf i j k₀ g →
+    (j < n → Agree x i j k) → (j < n → j + k ≤ n) → Joining O x n lam buf i j k g
+joining-agreed w a b =
+    record {
+      lyndon = w .lyndon;
+      inside = w .inside;
+      covered = w .covered;
+      inner = w .inner;
+      rows = w .rows;
+      agree = a;
+      within = b;
+      joined = w .joined;
+    }
 
+module _ {A : Type 0} {O : Letters A} {x : ℕ → A} {n : ℕ} {lam : ℕ → ℕ} (next : (t : ℕ) → t < n → NextSmaller O x n t (t + lam t))
+    {buf buf′ : ℕ → ℕ} where
   -- The word from i is joined with the factor at j, whose last place gets its entry back.
-  pub joining-step : (buf buf′ : ℕ → ℕ) (i j k₀ g₀ k s k′ : ℕ) → Joining O x n lam buf i j k₀ g₀ → j < n → Known x n lam buf j s → Agree x i j k →
+  pub joining-step : {i j k₀ g₀ k s k′ : ℕ} → Joining O x n lam buf i j k₀ g₀ → j < n → Known x n lam buf j s → Agree x i j k →
       SpanLess O x i j j (j + lam j) → k′ ≤ k → k′ ≤ s → ((t : ℕ) → t < n → ¬ (suc t ≡ j + lam j) → buf′ t ≡ buf t) →
       ((t : ℕ) → suc t ≡ j + lam j → buf′ t ≡ 1) → Joining O x n lam buf′ i (j + lam j) k′ k
-  joining-step buf buf′ i j k₀ g₀ k s k′ w l known g less a b kept reset =
+  joining-step {i} {j} {k = k} {s} {k′} w l known g less a b kept reset =
       record {
         lyndon = lyndon-join O x n i j (j + lam j) (w .lyndon) (next-lyndon O x n j (j + lam j) nj) less;
         inside = nj .inside;
         covered = λ t p q. reach t p q (decLt t j) (decLt j t);
         inner = λ t p q. entry t p q (decLt t j);
-        rows = rows-same x n lam buf buf′ (j + lam j) (λ t p q. kept t q (λ e. omega arith)) (fr .rest);
+        rows = rows-same (λ t p q. kept t q (λ e. omega arith)) (fr .rest);
         within = λ m. omega (arith, known .within m);
         agree =
             λ m. agree-trans x i j (j + lam j) k′ (agree-less x i j k k′ g a) (agree-less x j (j + lam j) s k′ (known .agree m) b);
@@ -74,7 +76,7 @@ module _ {A : Type 0} (O : Letters A) (x : ℕ → A) (n : ℕ) (lam : ℕ → �
       nj = next j l
 
       fr : Front x n lam buf j
-      fr = front x n lam buf j l (w .rows)
+      fr = front l (w .rows)
 
       reach : (t : ℕ) → i < t → t < j + lam j → Dec (t < j) → Dec (j < t) → t + lam t ≤ j + lam j
       reach t p q (yes h) r = omega (arith, w .covered t p h)
@@ -85,19 +87,19 @@ module _ {A : Type 0} (O : Letters A) (x : ℕ → A) (n : ℕ) (lam : ℕ → �
 
       entry : (t : ℕ) → i < t → t < j + lam j → Dec (t < j) → buf′ t ≡ lam t
       entry t p q (yes h) = kept t (omega (arith, nj .inside)) (λ e. omega (arith, nj .after)) ∙ w .inner t p h
-      entry t p q (no h) = restored-factor O x n lam next buf buf′ j l (w .rows) kept reset t (omega (arith, h)) q
+      entry t p q (no h) = restored-factor next l (w .rows) kept reset t (omega (arith, h)) q
 
   -- The length of the word at i is stored, and at its last place how far it agrees with what follows and with its last part.
-  pub joining-store : (buf buf′ : ℕ → ℕ) (i j k g s : ℕ) → Joining O x n lam buf i j k g → NextSmaller O x n i j → i + buf′ i ≡ j → s ≤ k → s ≤ g →
+  pub joining-store : {i j k g s : ℕ} → Joining O x n lam buf i j k g → NextSmaller O x n i j → i + buf′ i ≡ j → s ≤ k → s ≤ g →
       ((t : ℕ) → suc i < j → suc t ≡ j → buf′ t ≡ s) → ((t : ℕ) → i < t → t < n → ¬ ((suc i < j) × (suc t ≡ j)) → buf′ t ≡ buf t) →
       Rows x n lam buf′ i
-  joining-store buf buf′ i j k g s w m own a b stored kept = go (w .joined)
+  joining-store {i} {j} {k} {g} {s} w m own a b stored kept = go (w .joined)
     where
       is : i + lam i ≡ j
       is = next-unique O x n i (i + lam i) j (next i (omega (arith, w .inside, w .lyndon .non-empty))) m
 
       rest : Rows x n lam buf′ j
-      rest = rows-same x n lam buf buf′ j (λ t p q. kept t (omega (arith, w .lyndon .non-empty)) q (λ e. omega (arith, e .1))) (w .rows)
+      rest = rows-same (λ t p q. kept t (omega (arith, w .lyndon .non-empty)) q (λ e. omega (arith, e .1))) (w .rows)
 
       go : (j ≡ suc i) ⊎ LastPart x lam i j g → Rows x n lam buf′ i
       go (inl e) =

@@ -29,19 +29,22 @@ agreement-short O x i j t k w p q g = go (decLt (w .below t p q .offset) k)
     go (yes l) = absurd (b .smaller .0 (g (b .offset) l))
     go (no l) = omega (arith, l, b .inside)
 
-module _ {A : Type 0} (O : Letters A) (x : ℕ → A) (n : ℕ) (lam : ℕ → ℕ) (next : (t : ℕ) → t < n → NextSmaller O x n t (t + lam t)) where
-  pub known-letter : (buf : ℕ → ℕ) (j : ℕ) → j < n → lam j ≡ 1 → Known x n lam buf j 0
-  known-letter buf j l e =
-      record {
-        agree = λ h k m. absurd (omega arith);
-        within = λ h. omega arith;
-        short = omega arith;
-        inner = λ d p q. absurd (omega arith);
-        part-agree = λ d p q. absurd (omega arith);
-      }
+-- A single letter.
+pub known-letter : {A : Type 0} {x : ℕ → A} {n : ℕ} {lam buf : ℕ → ℕ} {j : ℕ} → j < n → lam j ≡ 1 → Known x n lam buf j 0
+known-letter l e =
+    record {
+      agree = λ h k m. absurd (omega arith);
+      within = λ h. omega arith;
+      short = omega arith;
+      inner = λ d p q. absurd (omega arith);
+      part-agree = λ d p q. absurd (omega arith);
+    }
 
-  pub known-word : (buf : ℕ → ℕ) (j : ℕ) (m : Remembered x n lam buf j) → Known x n lam buf j (buf (m .last))
-  known-word buf j m =
+-- A longer factor.
+module _ {A : Type 0} {O : Letters A} {x : ℕ → A} {n : ℕ} {lam : ℕ → ℕ} (next : (t : ℕ) → t < n → NextSmaller O x n t (t + lam t)) {buf : ℕ → ℕ} {j : ℕ}
+    (m : Remembered x n lam buf j) where
+  pub known-word : Known x n lam buf j (buf (m .last))
+  known-word =
       let b : m .part + buf (m .last) < j + lam j =
       agreement-short O x j (j + lam j) (m .part) (buf (m .last)) (next-lyndon O x n j (j + lam j) (next j (m .inside))) (m .part-after)
       (m .part-before) (m .part-agree) in

@@ -11,20 +11,20 @@ use Rattle.words.specs.Laws.SuffixOrder.{SuffixLess, parts, NextSmaller, agree-
 use Rattle.words.specs.Letters.{Letters, Smaller}
 use Rattle.array.proofs.Known.{agreement-short}
 
-module _ {A : Type 0} (O : Letters A) (x : ℕ → A) (n : ℕ) (lam : ℕ → ℕ) (next : (t : ℕ) → t < n → NextSmaller O x n t (t + lam t)) where
-  -- The factor at j is not smaller than the word before it: their first different letters say so.
-  pub leave-letter : (i j k : ℕ) → SpanLyndon O x i j → j + k < n → Agree x i j k → Smaller O (x (j + k)) (x (i + k)) → NextSmaller O x n i j
-  leave-letter i j k w l g s =
-      lyndon-next O x n i j w (omega arith)
-      (parts k l (omega (arith, w .non-empty)) (agree-sym x i j k g) s)
+-- The factor at j is not smaller than the word before it: their first different letters say so.
+pub leave-letter : {A : Type 0} {O : Letters A} {x : ℕ → A} {n : ℕ} {i j : ℕ} (k : ℕ) → SpanLyndon O x i j → j + k < n → Agree x i j k → Smaller O (x (j + k)) (x (i + k)) → NextSmaller O x n i j
+leave-letter {O = O} {x} {n} {i} {j} k w l g s =
+    lyndon-next O x n i j w (omega arith)
+    (parts k l (omega (arith, w .non-empty)) (agree-sym x i j k g) s)
 
-  -- Nothing is left to join.
-  pub leave-end : (i : ℕ) → SpanLyndon O x i n → NextSmaller O x n i n
-  leave-end i w = lyndon-next O x n i n w (omega arith) (empty-suffix-less O x n i (w .non-empty))
+-- Nothing is left to join.
+pub leave-end : {A : Type 0} {O : Letters A} {x : ℕ → A} {n : ℕ} {i : ℕ} → SpanLyndon O x i n → NextSmaller O x n i n
+leave-end {O = O} {x} {n} {i} w = lyndon-next O x n i n w (omega arith) (empty-suffix-less O x n i (w .non-empty))
 
+module _ {A : Type 0} {O : Letters A} {x : ℕ → A} {n : ℕ} (lam : ℕ → ℕ) (next : (t : ℕ) → t < n → NextSmaller O x n t (t + lam t)) where
   -- The factor at j is a prefix of the word before it, or equal to it: they are not joined.
-  pub leave-prefix : AllCompared O x n → (i j : ℕ) → SpanLyndon O x i j → j < n → i + lam j ≤ j → Agree x i j (lam j) → NextSmaller O x n i j
-  leave-prefix compared i j w l h g =
+  pub leave-prefix : {i j : ℕ} → AllCompared O x n → SpanLyndon O x i j → j < n → i + lam j ≤ j → Agree x i j (lam j) → NextSmaller O x n i j
+  leave-prefix {i} {j} compared w l h g =
       lyndon-next O x n i j w (omega arith)
       (go (suffix-compare O x n compared i j (omega (arith, w .non-empty)) (omega arith) (λ e. omega (arith, w .non-empty))))
     where

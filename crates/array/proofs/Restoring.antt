@@ -23,23 +23,24 @@ pub record Restoring {A : Type 0} (x : ℕ → A) (n : ℕ) (lam buf : ℕ → �
   pub final : (t : ℕ) → t < j → buf t ≡ lam t
   pub rows : Rows x n lam buf j
 
-module _ {A : Type 0} (O : Letters A) (x : ℕ → A) (n : ℕ) (lam : ℕ → ℕ) (next : (t : ℕ) → t < n → NextSmaller O x n t (t + lam t)) where
-  pub restoring-start : (buf : ℕ → ℕ) → Rows x n lam buf 0 → Restoring x n lam buf 0
-  restoring-start buf r = record { inside = omega arith; final = λ t p. absurd (omega arith); rows = r }
+pub restoring-start : {A : Type 0} {x : ℕ → A} {n : ℕ} {lam buf : ℕ → ℕ} → Rows x n lam buf 0 → Restoring x n lam buf 0
+restoring-start r = record { inside = omega arith; final = λ t p. absurd (omega arith); rows = r }
 
+module _ {A : Type 0} {O : Letters A} {x : ℕ → A} {n : ℕ} {lam : ℕ → ℕ} (next : (t : ℕ) → t < n → NextSmaller O x n t (t + lam t))
+    {buf buf′ : ℕ → ℕ} where
   -- The factor at j gets its last entry back, and the next one is looked at.
-  pub restoring-step : (buf buf′ : ℕ → ℕ) (j : ℕ) → Restoring x n lam buf j → j < n → ((t : ℕ) → t < n → ¬ (suc t ≡ j + lam j) → buf′ t ≡ buf t) →
+  pub restoring-step : {j : ℕ} → Restoring x n lam buf j → j < n → ((t : ℕ) → t < n → ¬ (suc t ≡ j + lam j) → buf′ t ≡ buf t) →
       ((t : ℕ) → suc t ≡ j + lam j → buf′ t ≡ 1) → Restoring x n lam buf′ (j + lam j)
-  restoring-step buf buf′ j w l kept reset =
+  restoring-step {j} w l kept reset =
       record {
         inside = next j l .inside;
         final = λ t p. go t p (decLt t j);
-        rows = rows-same x n lam buf buf′ (j + lam j) (λ t p q. kept t q (λ e. omega arith)) (front x n lam buf j l (w .rows) .rest);
+        rows = rows-same (λ t p q. kept t q (λ e. omega arith)) (front l (w .rows) .rest);
       }
     where
       go : (t : ℕ) → t < j + lam j → Dec (t < j) → buf′ t ≡ lam t
       go t p (yes h) = kept t (omega arith) (λ e. omega (arith, next j l .after)) ∙ w .final t h
-      go t p (no h) = restored-factor O x n lam next buf buf′ j l (w .rows) kept reset t (omega (arith, h)) p
+      go t p (no h) = restored-factor next l (w .rows) kept reset t (omega (arith, h)) p
 
 -- The last places below j have their entries back, for every text whose rows the buffer held.
 pub record RestoredBelow (before after : List ℕ) (n j : ℕ) : Type 0 where
@@ -53,7 +54,7 @@ restored-start buf n =
     record {
       others = record { size = refl; kept = λ t h. refl };
       restoring =
-          λ order x e r. restoring-start (orderOf order) (letters 0 x) (length x) (entryOf order x) (entry-next order x) (letters 0 buf) r;
+          λ order x e r. restoring-start r;
     }
 
 -- The factor at j, of length l.
@@ -94,7 +95,7 @@ restored-step before buf after n j l h w q e changed =
         let m : j < length x = omega (arith, ex) in
         let o : l ≡ entryOf order x j = e ∙ entry-own order x buf j m (r .rows) in
         subst (λ (k : ℕ). Restoring (letters 0 x) (length x) (entryOf order x) (letters 0 (restoredAt buf j l)) (j + k)) (sym o)
-        (restoring-step (orderOf order) (letters 0 x) (length x) (entryOf order x) (entry-next order x) (letters 0 buf) (letters 0 (restoredAt buf j l)) j r m
+        (restoring-step (entry-next order x) r m
         (λ t p z. restored-kept buf j l t (λ y. z (omega arith)))
         (λ t z.
         restored-one buf j l t (omega (arith, f .ends, f .inside))

@@ -12,9 +12,9 @@ pub record Front {A : Type 0} (x : ℕ → A) (n : ℕ) (lam buf : ℕ → ℕ) 
   pub rest : Rows x n lam buf (j + lam j)
   pub remembered : 1 < lam j → Remembered x n lam buf j
 
-module _ {A : Type 0} (x : ℕ → A) (n : ℕ) (lam : ℕ → ℕ) where
-  remembered-same : (buf buf′ : ℕ → ℕ) (c : ℕ) → ((t : ℕ) → c ≤ t → t < n → buf′ t ≡ buf t) → Remembered x n lam buf c → Remembered x n lam buf′ c
-  remembered-same buf buf′ c h m =
+module _ {A : Type 0} {x : ℕ → A} {n : ℕ} {lam buf buf′ : ℕ → ℕ} where
+  remembered-same : {c : ℕ} → ((t : ℕ) → c ≤ t → t < n → buf′ t ≡ buf t) → Remembered x n lam buf c → Remembered x n lam buf′ c
+  remembered-same {c} h m =
       let e : buf′ (m .last) ≡ buf (m .last) =
       h (m .last) (omega (arith, m .last-is, m .long)) (omega (arith, m .last-is, m .ends-inside)) in
       record {
@@ -36,20 +36,19 @@ module _ {A : Type 0} (x : ℕ → A) (n : ℕ) (lam : ℕ → ℕ) where
       }
 
   -- Rows look only at the buffer from their start on.
-  pub rows-same : (buf buf′ : ℕ → ℕ) (c : ℕ) → ((t : ℕ) → c ≤ t → t < n → buf′ t ≡ buf t) → Rows x n lam buf c → Rows x n lam buf′ c
-  rows-same buf buf′ c h (finished e) = finished e
-  rows-same buf buf′ c h (letter l e b r) =
-      letter l e (h c (omega arith) l ∙ b) (rows-same buf buf′ (suc c) (λ t p q. h t (omega arith) q) r)
-  rows-same buf buf′ c h (word m r) =
-      word (remembered-same buf buf′ c h m) (rows-same buf buf′ (c + lam c) (λ t p q. h t (omega arith) q) r)
+  pub rows-same : {c : ℕ} → ((t : ℕ) → c ≤ t → t < n → buf′ t ≡ buf t) → Rows x n lam buf c → Rows x n lam buf′ c
+  rows-same h (finished e) = finished e
+  rows-same {c} h (letter l e b r) = letter l e (h c (omega arith) l ∙ b) (rows-same (λ t p q. h t (omega arith) q) r)
+  rows-same h (word m r) = word (remembered-same h m) (rows-same (λ t p q. h t (omega arith) q) r)
 
-  pub front : (buf : ℕ → ℕ) (j : ℕ) → j < n → Rows x n lam buf j → Front x n lam buf j
-  front buf j l (finished e) = absurd (omega arith)
-  front buf j l (letter m e b r) =
-      let t : suc j ≡ j + lam j = omega arith in
-      record {
-        own = b ∙ sym e;
-        rest = subst (λ (c : ℕ). Rows x n lam buf c) t r;
-        remembered = λ h. absurd (omega arith);
-      }
-  front buf j l (word m r) = record { own = m .own; rest = r; remembered = λ h. m }
+-- The rows of a position inside the text begin with a factor.
+pub front : {A : Type 0} {x : ℕ → A} {n : ℕ} {lam buf : ℕ → ℕ} {j : ℕ} → j < n → Rows x n lam buf j → Front x n lam buf j
+front l (finished e) = absurd (omega arith)
+front {x = x} {n} {lam} {buf} {j} l (letter m e b r) =
+    let t : suc j ≡ j + lam j = omega arith in
+    record {
+      own = b ∙ sym e;
+      rest = subst (λ (c : ℕ). Rows x n lam buf c) t r;
+      remembered = λ h. absurd (omega arith);
+    }
+front l (word m r) = record { own = m .own; rest = r; remembered = λ h. m }

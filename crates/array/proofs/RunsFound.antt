@@ -86,7 +86,8 @@ module _ (x : List ℕ) (work work₁ part list list₁ list₂ list₃ : List �
   is-list : sorted .entries ≡ runList x
   is-list =
       run-list-unique
-      (rearranged-run-list x (a .entries ++ b .entries) (sorted .entries) once (member-sorted sorted) (sorted-member sorted) (sorted-length sorted) (sorted .ordered))
+      (rearranged-run-list x (a .entries ++ b .entries) (sorted .entries) once (member-sorted sorted) (sorted-member sorted)
+      (sorted-length sorted) (sorted .ordered))
       (runsOf-holds decided-number-equality x)
 
   size : (order : ℕ) → length (arrayOf (decided-order order) x) ≡ length x

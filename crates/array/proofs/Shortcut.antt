@@ -9,12 +9,12 @@ use Rattle.words.specs.Laws.SuffixOrder.{NextSmaller, agree-join}
 use Rattle.words.specs.Letters.{Letters}
 use Rattle.array.proofs.Known.{Known, agreement-short}
 
-module _ {A : Type 0} (O : Letters A) (x : ℕ → A) (n : ℕ) (lam : ℕ → ℕ) (next : (t : ℕ) → t < n → NextSmaller O x n t (t + lam t)) where
+module _ {A : Type 0} {O : Letters A} {x : ℕ → A} {n : ℕ} {lam : ℕ → ℕ} (next : (t : ℕ) → t < n → NextSmaller O x n t (t + lam t)) where
   -- The word at i is a prefix of the factor at j, and that factor's last part starts where the prefix ends: what is known of the
   -- factor's agreement with that part holds behind the prefix.
-  pub shortcut : (buf : ℕ → ℕ) (i j d s : ℕ) → SpanLyndon O x i j → j < n → i + d ≡ j → Agree x i j d → Known x n lam buf j s → d ≤ s →
+  pub shortcut : {buf : ℕ → ℕ} {i j s : ℕ} (d : ℕ) → SpanLyndon O x i j → j < n → i + d ≡ j → Agree x i j d → Known x n lam buf j s → d ≤ s →
       d + buf (j + d) ≡ lam j → Agree x i j (d + s) × (d + s ≤ lam j)
-  shortcut buf i j d s w l e g known h m =
+  shortcut {i = i} {j} {s} d w l e g known h m =
       let q : 0 < d = omega (arith, w .non-empty) in
       let r : Agree x j (j + d) s = known .part-agree d q h (subst (λ (z : ℕ). d + z ≡ lam j) (known .inner d q h) m) apart in
       let b : j + d + s < j + lam j =

@@ -43,8 +43,7 @@ module _ (order : ℕ) (x before buf : List ℕ) (i : ℕ) (r : Joined) (w : Joi
   pub extended-joining : (k : ℕ) → ExtendedTo x i (r .end) k (r .stop) →
       Joining (orderOf order) (letters 0 x) (length x) (entryOf order x) (letters 0 buf) i (r .end) k (r .part)
   extended-joining k e =
-      joining-agreed (orderOf order) (letters 0 x) (length x) (entryOf order x) (entry-next order x) (letters 0 buf) i (r .end) (r .agreed) k (r .part)
-      (w .joining) (λ l. agreeing (r .stop) (w .stopped) e .agree) (λ l. agreeing (r .stop) (w .stopped) e .within)
+      joining-agreed (w .joining) (λ l. agreeing (r .stop) (w .stopped) e .agree) (λ l. agreeing (r .stop) (w .stopped) e .within)
     where
       agreeing : (c : Comparison) → Stopped order x i (r .end) (r .agreed) c → ExtendedTo x i (r .end) k c → Agreeing x i (r .end) k
       agreeing Below q h = absurd q
