@@ -8,8 +8,8 @@ use native.Mathlib.Omega.{arith}
 use lib.ListN.{length, getD, take, drop, length-drop}
 use lib.Seq.{getD-drop, take-all}
 use Rattle.words.specs.Laws.SpanLyndon.{letters}
-use Rattle.array.specs.declared.joined.Comparison.{Comparison}
-use Rattle.array.specs.declared.joined.Comparison.the-variants.{Below, Same, Above}
+use Rattle.letters.specs.declared.Comparison.{Comparison}
+use Rattle.letters.specs.declared.Comparison.the-variants.{Below, Same, Above}
 use Rattle.array.specs.CommonPrefix.{commonPrefix}
 use Rattle.array.specs.Core.RunExtent.{StoppedAt, Exact, ExtendedTo}
 use Rattle.array.proofs.CommonPrefixLaws.{Agreement, commonPrefix-agreement}

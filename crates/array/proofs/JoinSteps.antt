@@ -9,8 +9,8 @@ use Rattle.words.specs.Laws.Position.{SpanLyndon}
 use Rattle.words.specs.Laws.SpanLyndon.{letters}
 use Rattle.words.specs.Laws.SuffixOrder.{NextSmaller}
 use Rattle.words.specs.Letters.{orderOf}
-use Rattle.array.specs.declared.joined.Comparison.{Comparison}
-use Rattle.array.specs.declared.joined.Comparison.the-variants.{Below, Same, Above}
+use Rattle.letters.specs.declared.Comparison.{Comparison}
+use Rattle.letters.specs.declared.Comparison.the-variants.{Below, Same, Above}
 use Rattle.array.specs.Core.Join.{Stopped, JoinedTo, Agreeing}
 use Rattle.array.specs.Core.Place.{restoredAt}
 use Rattle.array.specs.Core.Rows.{entryOf, RowsOf}

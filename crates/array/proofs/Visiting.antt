@@ -12,8 +12,8 @@ use Rattle.words.specs.Laws.RunMarks.{endBound}
 use Rattle.words.specs.Laws.SpanLyndon.{letters}
 use Rattle.words.specs.Laws.SuffixOrder.{NextSmaller, agree-less}
 use Rattle.words.specs.Letters.{orderOf}
-use Rattle.array.specs.declared.joined.Comparison.{Comparison}
-use Rattle.array.specs.declared.joined.Comparison.the-variants.{Below, Same, Above}
+use Rattle.letters.specs.declared.Comparison.{Comparison}
+use Rattle.letters.specs.declared.Comparison.the-variants.{Below, Same, Above}
 use Rattle.array.specs.declared.joined.Joined.{Joined}
 use Rattle.array.specs.Core.Join.{SameWord, Stopped, JoinedTo, Agreeing}
 use Rattle.array.specs.Core.Joining.{Joining}

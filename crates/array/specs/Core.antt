@@ -1,7 +1,6 @@
 pub mod Rows
 pub mod Place
 pub mod Joining
-pub mod Order
 pub mod Join
 pub mod Fill
 pub mod RunExtent

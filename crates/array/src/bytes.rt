@@ -1,31 +1,19 @@
 // The Lyndon array of a text of bytes.
-use crate::joined::Comparison;
+use crate::checks;
 use crate::joined::Joined;
 use crate::places;
 use answer::Answer;
-use answer::Reason;
-use answer::limits;
+use answer::Outcome;
+use letters::Comparison;
 ghost use mathlib.Core.Path.{_≡_};
 ghost use Prim.Native.Nat.{_+_, _-_, _≤_, _<_};
 ghost use lib.ListN.{length};
-ghost use Rattle.answer.specs.Limits.{maxLength};
-ghost use Rattle.array.specs.Core.Order.{smallerIn};
 ghost use Rattle.array.specs.Core.Join.{JoinReady, JoinedTo};
-ghost use Rattle.array.specs.Core.Fill.{Filled};
+ghost use Rattle.array.specs.Core.Fill.{TextFits, Filled};
 ghost use Rattle.array.specs.Calls.{arrayAnswer};
 ghost use Rattle.answer.specs.Checks.{written, contentAfter};
 ghost use Rattle.words.specs.Letters.{decided-order};
 ghost use Rattle.words.specs.Compute.LyndonArray.{arrayOf};
-
-// Letter a is the smaller one of two different letters.
-fn smaller(a: u8, b: u8, order: u32) -> bool
-    ensures { λ r. ⌜ r ≡ smallerIn order a b ⌝ }
-{
-    if order == 0 {
-        return a < b;
-    }
-    b < a
-}
 
 // Joins to the letter at i the factors after it, as long as the word so far is smaller than the next factor.
 pub(crate) fn join(text: &[u8], order: u32, buf: &mut [u32], i: usize) -> Joined
@@ -38,7 +26,7 @@ pub(crate) fn join(text: &[u8], order: u32, buf: &mut [u32], i: usize) -> Joined
     let mut part: usize = 0;
     while j < n {
         // The lengths of the next factor and of the word so far, and what is remembered of the factor.
-        let factor = places::wide(buf[j]);
+        let factor = letters::wide(buf[j]);
         let word = j - i;
         let known = places::remembered(buf, j, factor);
         // Compares the word so far with the next factor, from the letters that are known to agree. Where the word ends first, below is
@@ -52,13 +40,13 @@ pub(crate) fn join(text: &[u8], order: u32, buf: &mut [u32], i: usize) -> Joined
                     break Comparison::Above;
                 }
             }
-            let a = text[i + k];
-            let b = text[j + k];
+            let a = letters::letter(text[i + k]);
+            let b = letters::letter(text[j + k]);
             if a != b {
                 if word <= k {
                     break Comparison::Below;
                 }
-                if smaller(a, b, order) {
+                if letters::smaller(a, b, order) {
                     break Comparison::Below;
                 }
                 break Comparison::Above;
@@ -69,7 +57,7 @@ pub(crate) fn join(text: &[u8], order: u32, buf: &mut [u32], i: usize) -> Joined
                     if known < word {
                         break Comparison::Below;
                     }
-                    if word + places::wide(buf[j + word]) == factor {
+                    if word + letters::wide(buf[j + word]) == factor {
                         k = word + known;
                         break Comparison::Below;
                     }
@@ -113,7 +101,7 @@ pub(crate) fn join(text: &[u8], order: u32, buf: &mut [u32], i: usize) -> Joined
 
 // Joins at every position from the last to the first.
 fn fill(text: &[u8], order: u32, buf: &mut [u32])
-    requires { ⌜ (length (now text) ≤ length (now buf)) × (length (now text) ≤ maxLength) ⌝ }
+    requires { ⌜ TextFits (now text) (now buf) ⌝ }
     ensures { λ r. ⌜ Filled order (now (text .entry)) (now (buf .entry)) (now (buf .exit)) 0 ⌝ }
 {
     let mut i = text.len();
@@ -129,7 +117,7 @@ fn fill(text: &[u8], order: u32, buf: &mut [u32])
 
 // Writes the Lyndon array of the text.
 fn compute(text: &[u8], order: u32, buf: &mut [u32])
-    requires { ⌜ (length (now text) ≤ length (now buf)) × (length (now text) ≤ maxLength) ⌝ }
+    requires { ⌜ TextFits (now text) (now buf) ⌝ }
     ensures { λ r. ⌜ now (buf .exit) ≡ written (arrayOf (decided-order order) (now (text .entry))) (now (buf .entry)) ⌝ }
 {
     fill(text, order, buf);
@@ -142,19 +130,16 @@ pub fn lyndon_array(text: &[u8], order: u32, out: &mut [u32]) -> Answer
     ensures answer { λ r. ⌜ r ≡ arrayAnswer (length (now (text .entry))) order (length (now (out .entry))) ⌝ }
     ensures content { λ r. ⌜ now (out .exit) ≡ contentAfter r (arrayOf (decided-order order) (now (text .entry))) (now (out .entry)) ⌝ }
 {
-    let n = text.len();
-    if n == 0 {
-        return answer::refused(Reason::EmptyText, 0);
+    let told = checks::array_answer(text.len(), order, out.len());
+    let outcome = told.outcome;
+    match outcome {
+        Outcome::Accepted { count: _ } => {
+            compute(text, order, out);
+            told
+        }
+        Outcome::Refused {
+            reason: _,
+            position: _,
+        } => told,
     }
-    if limits::MAX_LENGTH < n {
-        return answer::refused(Reason::TextTooLong, 0);
-    }
-    if 1 < order {
-        return answer::refused(Reason::UnknownOrder, 0);
-    }
-    if out.len() < n {
-        return answer::refused(Reason::ShortOutput, 0);
-    }
-    compute(text, order, out);
-    answer::accepted(n as u32)
 }

@@ -5,13 +5,6 @@ ghost use lib.ListN.{length};
 ghost use Rattle.array.specs.Core.Place.{rememberedAt, restoredAt, StoreReady, storedAt};
 ghost use Rattle.array.specs.Core.Fill.{HasRows, AllRestored};
 
-// A stored number as a position.
-pub(crate) fn wide(x: u32) -> usize
-    ensures { λ r. ⌜ r ≡ x ⌝ }
-{
-    x as usize
-}
-
 // The smaller of two numbers.
 pub(crate) fn smaller_of(a: usize, b: usize) -> usize
     ensures { λ r. ⌜ r ≡ min a b ⌝ }
@@ -28,7 +21,7 @@ pub(crate) fn remembered(buf: &[u32], j: usize, l: usize) -> usize
     ensures { λ r. ⌜ r ≡ rememberedAt (now (buf .entry)) j l ⌝ }
 {
     if 1 < l {
-        return wide(buf[j + l - 1]);
+        return letters::wide(buf[j + l - 1]);
     }
     0
 }
@@ -62,7 +55,7 @@ pub(crate) fn restore_all(buf: &mut [u32], n: usize)
 {
     let mut j: usize = 0;
     while j < n {
-        let l = wide(buf[j]);
+        let l = letters::wide(buf[j]);
         restore(buf, j, l);
         j += l;
     }

@@ -1,11 +1,11 @@
 // The list of all runs of a text of bytes.
 use crate::agreement;
 use crate::bytes;
-use crate::joined::Comparison;
 use crate::places;
 use answer::Answer;
 use answer::Reason;
 use answer::limits;
+use letters::Comparison;
 ghost use mathlib.Core.Path.{_≡_};
 ghost use Prim.Native.Nat.{_+_, _-_, _*_, _≤_, _<_};
 ghost use lib.ListN.{length};
@@ -34,7 +34,7 @@ fn extended(
     }
     match stop {
         Comparison::Above => {
-            if agreed < places::wide(buf[end]) {
+            if agreed < letters::wide(buf[end]) {
                 return agreed;
             }
             let u = &text[i + agreed..];

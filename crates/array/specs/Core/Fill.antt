@@ -4,7 +4,13 @@ use mathlib.Core.Path.{_≡_}
 use mathlib.Core.List.{List}
 use Prim.Native.Nat.{ℕ, _<_, _≤_}
 use lib.ListN.{length, getD}
+use Rattle.answer.specs.Limits.{maxLength}
 use Rattle.array.specs.Core.Rows.{entryOf, RowsOf}
+
+-- A text that is not too long, with a buffer for its array.
+pub record TextFits (x buf : List ℕ) : Type 0 where
+  pub fits : length x ≤ length buf
+  pub small : length x ≤ maxLength
 
 -- The places from n on keep their content.
 pub record KeptFrom (before after : List ℕ) (n : ℕ) : Type 0 where

@@ -2,20 +2,14 @@
 -- Assumes nothing.
 use borrow.Author.Needs.{needs}
 use native.Mathlib.Omega.{arith}
-use mathlib.Core.Path.{_≡_, refl, sym, _∙_}
-use mathlib.Core.Logic.{_⊎_, inl, inr, ⊎-elim}
-use Prim.Native.Nat.{ℕ, _+_, _-_, _<_, _≤_}
-use lib.ListN.{length, getD}
-use Rattle.words.specs.Laws.SpanLyndon.{letters}
-use Rattle.words.specs.Laws.Position.{Agree}
-use Rattle.array.specs.Core.Rows.{entryOf}
-use Rattle.array.proofs.Entries.{entry-next}
+use mathlib.Core.Path.{refl}
+use mathlib.Core.Logic.{⊎-elim}
+use Prim.Native.Nat.{ℕ, _+_, _-_}
+use lib.ListN.{length}
 use Rattle.array.specs.Core.Join.{Agreeing}
-use Rattle.array.proofs.Comparing.{JoinLoop}
-use Rattle.array.proofs.ComparisonEnds.{Compared}
-use Rattle.array.specs.declared.joined.Comparison.{Comparison}
-use Rattle.array.proofs.Comparing.{Comparing, comparing, factor-fits, agreeing-start}
-use Rattle.array.proofs.ComparisonEnds.{ended-same, ended-above, past-below, letter-below, letter-above, agree-more, word-below, leap-below}
+use Rattle.array.proofs.Comparing.{JoinLoop, Comparing, comparing, factor-fits, agreeing-start}
+use Rattle.array.proofs.ComparisonEnds.{Compared, agree-more, ended-same, ended-above, past-below, letter-below, letter-above}
+use Rattle.array.proofs.ComparisonEnds.{word-below, leap-below}
 use Rattle.array.proofs.JoinSteps.{join-start, join-step, joined-same, joined-above, joined-end}
 use Rattle.array.proofs.numbers.join.Statement.{statement}
 use Rattle.array.proofs.numbers.join.Tie as tie
@@ -32,96 +26,54 @@ Inv-loop text order buf₀ i n j₀ k₀ part₀ buf j k part = JoinLoop order t
 abbrev μ-loop : tie.MeasureT-loop
 μ-loop text order buf₀ i n j₀ k₀ part₀ buf j k part = length text - j
 
--- The moments that facts are told at, each with the way back to the one before it. The call:
-abbrev Call : Type 0
-Call = tie.Start Inv-loop2 μ-loop2 Inv-loop μ-loop
-
--- the head of the outer loop,
-abbrev Head : Type 0
-Head = tie.At-loop Inv-loop2 μ-loop2 Inv-loop μ-loop
-
-abbrev call : Head → Call
+-- The moments that facts are told at, each found from a later one: the call, the head of the outer loop, the beginning of the
+-- comparison, a turn of it inside the factor, one in which the letters agreed, and the end of the comparison.
+abbrev call : tie.At-loop Inv-loop2 μ-loop2 Inv-loop μ-loop → tie.Start Inv-loop2 μ-loop2 Inv-loop μ-loop
 call c = c .before .before .before
 
--- the beginning of the comparison,
-abbrev Begun : Type 0
-Begun = tie.After-remembered Inv-loop2 μ-loop2 Inv-loop μ-loop
-
-abbrev head : Begun → Head
+abbrev head : tie.After-remembered Inv-loop2 μ-loop2 Inv-loop μ-loop → tie.At-loop Inv-loop2 μ-loop2 Inv-loop μ-loop
 head c = c .before .before .before .before .before
 
-abbrev factor : Begun → ℕ
-factor c = c .before .before .wide .result
-
-abbrev word : Begun → ℕ
-word c = head c .loop .j - call (head c) .args .i
-
--- a turn of the comparison inside the factor,
-abbrev Turn : Type 0
-Turn = tie.Else1 Inv-loop2 μ-loop2 Inv-loop μ-loop
-
-abbrev begun : Turn → Begun
+abbrev begun : tie.Else1 Inv-loop2 μ-loop2 Inv-loop μ-loop → tie.After-remembered Inv-loop2 μ-loop2 Inv-loop μ-loop
 begun c = c .before .before
 
--- one in which the letters agreed,
-abbrev Agreed : Type 0
-Agreed = tie.Else3 Inv-loop2 μ-loop2 Inv-loop μ-loop
-
-abbrev turn : Agreed → Turn
+abbrev turn : tie.Else3 Inv-loop2 μ-loop2 Inv-loop μ-loop → tie.Else1 Inv-loop2 μ-loop2 Inv-loop μ-loop
 turn c = c .before .before .before
 
--- the test whether what is remembered serves,
-abbrev Longer : Type 0
-Longer = tie.Else8 Inv-loop2 μ-loop2 Inv-loop μ-loop
-
-abbrev agreed : Longer → Agreed
+abbrev agreed : tie.Else8 Inv-loop2 μ-loop2 Inv-loop μ-loop → tie.Else3 Inv-loop2 μ-loop2 Inv-loop μ-loop
 agreed c = c .before .before .before
 
--- the end of the comparison,
-abbrev Ended : Type 0
-Ended = tie.Joined1 Inv-loop2 μ-loop2 Inv-loop μ-loop
-
-abbrev began : Ended → Begun
+abbrev began : tie.Joined1 Inv-loop2 μ-loop2 Inv-loop μ-loop → tie.After-remembered Inv-loop2 μ-loop2 Inv-loop μ-loop
 began c = c .before .before
 
--- and the end of a turn of the outer loop.
-abbrev ended : tie.Joined10 Inv-loop2 μ-loop2 Inv-loop μ-loop → Ended
+abbrev ended : tie.Joined10 Inv-loop2 μ-loop2 Inv-loop μ-loop → tie.Joined1 Inv-loop2 μ-loop2 Inv-loop μ-loop
 ended c = c .before .before .before .before .before .before .before
 
 -- What is known where the comparison begins.
-facts : (c : Begun) →
+facts : (c : tie.After-remembered Inv-loop2 μ-loop2 Inv-loop μ-loop) →
     Comparing (call (head c) .args .order) (call (head c) .args .text .now) (call (head c) .args .buf .now) (head c .loop .buf)
-    (call (head c) .args .i) (head c .loop .j) (head c .loop .k) (head c .loop .part) (factor c) (c .remembered .result)
+    (call (head c) .args .i) (head c .loop .j) (head c .loop .k) (head c .loop .part) (c .before .before .wide .result) (c .remembered .result)
 facts c = search comparing
 
+-- One letter more agrees.
+more : (c : tie.Else3 Inv-loop2 μ-loop2 Inv-loop μ-loop) →
+    Agreeing (call (head (begun (turn c))) .args .text .now) (call (head (begun (turn c))) .args .i) (head (begun (turn c)) .loop .j)
+    (turn c .before .loop2 .k + 1)
+more c = agree-more (facts (begun (turn c))) (turn c .before .loop2 .inv) refl refl (turn c .if1 .left) (c .if3 .left)
+
 -- What the comparison says: each way out of it, by the tests on that way.
-told : (c : Ended) →
+told : (c : tie.Joined1 Inv-loop2 μ-loop2 Inv-loop μ-loop) →
     Compared (call (head (began c)) .args .order) (call (head (began c)) .args .text .now) (call (head (began c)) .args .i)
     (head (began c) .loop .j) (c .if1 .k) (c .if1 .outcome)
 told c =
     let w = facts (began c) in
-    let at-turn = c .before .loop2 .inv in
-    ⊎-elim (λ r. simp (r .2, r .3) (ended-same w at-turn (r .0 .taken) (r .1 .taken)))
-    (⊎-elim (λ r. simp (r .2, r .3) (ended-above w at-turn (r .0 .taken) (r .1 .left)))
-    (⊎-elim (λ r. simp (r .5, r .6) (past-below w at-turn (r .0 .left) (r .4 .taken)))
-    (⊎-elim
-    (λ r. simp (r .7, r .8) (letter-below w refl refl at-turn (r .0 .left) (r .4 .left) (r .3 .taken) (sym (r .5 .ensures) ∙ r .6 .taken)))
-    (⊎-elim
-    (λ r. simp (r .7, r .8) (letter-above w refl refl at-turn (r .0 .left) (r .4 .left) (r .3 .taken) (sym (r .5 .ensures) ∙ r .6 .left)))
-    (⊎-elim
-    (λ r.
-    let more = agree-more w refl refl at-turn (r .0 .left) (r .3 .left) in
-    simp (r .7, r .8) (word-below w more (r .4 .taken) (r .5 .taken)))
-    (λ r.
-    let more = agree-more w refl refl at-turn (r .0 .left) (r .3 .left) in
-    simp (r .10, r .11) (leap-below w more (r .4 .taken) (r .5 .taken) (r .6 .left) (rw (r .8 .ensures) at (r .9 .taken)))))))))
+    let g = c .before .loop2 .inv in
+    ⊎-elim (λ r. search (ended-same w g))
+    (⊎-elim (λ r. search (ended-above w g))
+    (⊎-elim (λ r. search (past-below w g))
+    (⊎-elim (λ r. search (letter-below w g refl refl))
+    (⊎-elim (λ r. search (letter-above w g refl refl)) (⊎-elim (λ r. search (word-below w g refl refl)) (λ r. search (leap-below w g refl refl)))))))
     (c .if1 .came)
-
--- One letter more agrees.
-more : (c : Agreed) →
-    Agreeing (call (head (begun (turn c))) .args .text .now) (call (head (begun (turn c))) .args .i) (head (begun (turn c)) .loop .j)
-    (turn c .before .loop2 .k + 1)
-more c = agree-more (facts (begun (turn c))) refl refl (turn c .before .loop2 .inv) (turn c .if1 .left) (c .if3 .left)
 
 add-j : tie.Need-add-j Inv-loop2 μ-loop2 Inv-loop μ-loop
 add-j c = search needs
@@ -186,7 +138,9 @@ wide-requires-2 c κs = search needs
 add-if9 : tie.Need-add-if9 Inv-loop2 μ-loop2 Inv-loop μ-loop
 add-if9 c =
     let at-begun = begun (turn (agreed (c .before .before))) in
-    omega (arith, facts at-begun, c .wide2 .ensures, c .before .slice-known3 .given (head at-begun .loop .j + word at-begun))
+    let at-head = head at-begun in
+    let word = at-head .loop .j - call at-head .args .i in
+    omega (arith, facts at-begun, c .wide2 .ensures, c .before .slice-known3 .given (at-head .loop .j + word))
 
 add-k-2 : tie.Need-add-k-2 Inv-loop2 μ-loop2 Inv-loop μ-loop
 add-k-2 c = omega (arith, facts (begun (turn (agreed (c .before .before .before)))))
