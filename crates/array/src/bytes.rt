@@ -18,7 +18,7 @@ ghost use Rattle.words.specs.Compute.LyndonArray.{arrayOf};
 // Joins to the letter at i the factors after it, as long as the word so far is smaller than the next factor.
 pub(crate) fn join(text: &[u8], order: u32, buf: &mut [u32], i: usize) -> Joined
     requires { ⌜ JoinReady order (now text) (now buf) i ⌝ }
-    ensures { λ r. ⌜ JoinedTo order (now (text .entry)) (now (buf .entry)) (now (buf .exit)) i r ⌝ }
+    ensures content { λ r. ⌜ JoinedTo order (now (text .entry)) (now (buf .entry)) (now (buf .exit)) i r ⌝ }
 {
     let n = text.len();
     let mut j = i + 1;
@@ -102,7 +102,7 @@ pub(crate) fn join(text: &[u8], order: u32, buf: &mut [u32], i: usize) -> Joined
 // Joins at every position from the last to the first.
 fn fill(text: &[u8], order: u32, buf: &mut [u32])
     requires { ⌜ TextFits (now text) (now buf) ⌝ }
-    ensures { λ r. ⌜ Filled order (now (text .entry)) (now (buf .entry)) (now (buf .exit)) 0 ⌝ }
+    ensures content { λ r. ⌜ Filled order (now (text .entry)) (now (buf .entry)) (now (buf .exit)) 0 ⌝ }
 {
     let mut i = text.len();
     while 0 < i {
@@ -118,7 +118,7 @@ fn fill(text: &[u8], order: u32, buf: &mut [u32])
 // Writes the Lyndon array of the text.
 fn compute(text: &[u8], order: u32, buf: &mut [u32])
     requires { ⌜ TextFits (now text) (now buf) ⌝ }
-    ensures { λ r. ⌜ now (buf .exit) ≡ written (arrayOf (decided-order order) (now (text .entry))) (now (buf .entry)) ⌝ }
+    ensures content { λ r. ⌜ now (buf .exit) ≡ written (arrayOf (decided-order order) (now (text .entry))) (now (buf .entry)) ⌝ }
 {
     fill(text, order, buf);
     places::restore_all(buf, text.len());

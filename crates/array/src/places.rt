@@ -7,7 +7,7 @@ ghost use Rattle.array.specs.Core.Fill.{HasRows, AllRestored};
 
 // The smaller of two numbers.
 pub(crate) fn smaller_of(a: usize, b: usize) -> usize
-    ensures { λ r. ⌜ r ≡ min a b ⌝ }
+    ensures result { λ r. ⌜ r ≡ min a b ⌝ }
 {
     if a < b {
         return a;
@@ -18,7 +18,7 @@ pub(crate) fn smaller_of(a: usize, b: usize) -> usize
 // The number remembered at the last place of the factor of length l at j.
 pub(crate) fn remembered(buf: &[u32], j: usize, l: usize) -> usize
     requires { ⌜ j + l ≤ length (now buf) ⌝ }
-    ensures { λ r. ⌜ r ≡ rememberedAt (now (buf .entry)) j l ⌝ }
+    ensures result { λ r. ⌜ r ≡ rememberedAt (now (buf .entry)) j l ⌝ }
 {
     if 1 < l {
         return letters::wide(buf[j + l - 1]);
@@ -29,7 +29,7 @@ pub(crate) fn remembered(buf: &[u32], j: usize, l: usize) -> usize
 // Gives the last place of the factor of length l at j its entry back.
 pub(crate) fn restore(buf: &mut [u32], j: usize, l: usize)
     requires { ⌜ j + l ≤ length (now buf) ⌝ }
-    ensures { λ r. ⌜ now (buf .exit) ≡ restoredAt (now (buf .entry)) j l ⌝ }
+    ensures content { λ r. ⌜ now (buf .exit) ≡ restoredAt (now (buf .entry)) j l ⌝ }
 {
     if 1 < l {
         buf[j + l - 1] = 1;
@@ -39,7 +39,7 @@ pub(crate) fn restore(buf: &mut [u32], j: usize, l: usize)
 // Stores the length of the word from i to e, and s at its last place if it has two letters or more.
 pub(crate) fn store(buf: &mut [u32], i: usize, e: usize, s: usize)
     requires { ⌜ StoreReady (now buf) i e s ⌝ }
-    ensures { λ r. ⌜ now (buf .exit) ≡ storedAt (now (buf .entry)) i e s ⌝ }
+    ensures content { λ r. ⌜ now (buf .exit) ≡ storedAt (now (buf .entry)) i e s ⌝ }
 {
     let l = e - i;
     buf[i] = l as u32;
@@ -51,7 +51,7 @@ pub(crate) fn store(buf: &mut [u32], i: usize, e: usize, s: usize)
 // Gives the last places of all factors their entries back.
 pub(crate) fn restore_all(buf: &mut [u32], n: usize)
     requires { ⌜ HasRows (now buf) n ⌝ }
-    ensures { λ r. ⌜ AllRestored (now (buf .entry)) (now (buf .exit)) n ⌝ }
+    ensures content { λ r. ⌜ AllRestored (now (buf .entry)) (now (buf .exit)) n ⌝ }
 {
     let mut j: usize = 0;
     while j < n {

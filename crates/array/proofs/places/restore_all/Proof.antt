@@ -3,8 +3,7 @@
 use borrow.Author.Needs.{needs}
 use native.Mathlib.Omega.{arith}
 use Prim.Native.Nat.{_-_}
-use Rattle.array.proofs.Restoring.{RestoredBelow}
-use Rattle.array.proofs.Restoring.{FactorAt, restored-start, factor-at, restored-step, all-restored}
+use Rattle.array.proofs.Restoring.{RestoredBelow, FactorAt, restored-start, factor-at, restored-step, all-restored}
 use Rattle.array.proofs.places.restore_all.Statement.{statement}
 use Rattle.array.proofs.places.restore_all.Tie as tie
 
@@ -14,9 +13,15 @@ Inv-loop buf₀ n j₀ buf j = RestoredBelow buf₀ buf n j
 abbrev μ-loop : tie.MeasureT-loop
 μ-loop buf₀ n j₀ buf j = n - j
 
--- The factor at j, where its length has been read.
-factor : (c : tie.After-wide Inv-loop μ-loop) →
-    FactorAt (c .before .before .before .loop .buf) (c .before .before .before .before .before .args .n) (c .before .before .before .loop .j) (c .wide .result)
+-- The moments that facts are told at: the head of the loop, and where the length of the factor has been read.
+abbrev head : tie.After-wide Inv-loop μ-loop → tie.At-loop Inv-loop μ-loop
+head c = c .before .before .before
+
+abbrev read : tie.After-slice-known3 Inv-loop μ-loop → tie.After-wide Inv-loop μ-loop
+read c = c .before .before .before .before
+
+-- The factor at j.
+factor : (c : tie.After-wide Inv-loop μ-loop) → FactorAt (head c .loop .buf) (head c .before .before .args .n) (head c .loop .j) (c .wide .result)
 factor c = search factor-at
 
 loop-holds : tie.Need-loop-holds Inv-loop μ-loop
@@ -35,10 +40,10 @@ restore-requires : tie.Need-restore-requires Inv-loop μ-loop
 restore-requires c κs = omega (arith, factor (c .before))
 
 add-j : tie.Need-add-j Inv-loop μ-loop
-add-j c = omega (arith, factor (c .before .before .before .before))
+add-j c = omega (arith, factor (read c))
 
 loop-less : tie.Need-loop-less Inv-loop μ-loop
-loop-less c = omega (arith, factor (c .before .before .before .before))
+loop-less c = omega (arith, factor (read c))
 
 loop-again : tie.Need-loop-again Inv-loop μ-loop
 loop-again c = search restored-step
