@@ -55,20 +55,20 @@ filled-ready order x before buf i f fits small p q =
     }
 
 -- What storing the joined word asks for.
-pub store-ready : (order : ℕ) (x before buf : List ℕ) (i k s : ℕ) (r : Joined) → JoinedTo order x before buf i r → s ≡ min k (r .part) →
-    length x ≤ length before → length x ≤ maxLength → StoreReady buf i (r .end) s
-store-ready order x before buf i k s r w e fits small =
+pub store-ready : (order : ℕ) (x before buf : List ℕ) (i k : ℕ) (r : Joined) → JoinedTo order x before buf i r →
+    length x ≤ length before → length x ≤ maxLength → StoreReady buf i (r .end) (min k (r .part))
+store-ready order x before buf i k r w fits small =
     record {
       after = w .joining .lyndon .non-empty;
       inside = omega (arith, w .joining .inside, w .changed .size);
       small = omega (arith, w .joining .inside);
-      stored = λ l. omega (arith, stored-small order x before buf i s r w (omega arith) l);
+      stored = λ l. omega (arith, stored-small order x before buf i (min k (r .part)) r w (omega arith) l);
     }
 
-pub filled-store-ready : (order : ℕ) (x before₀ before buf : List ℕ) (i k s : ℕ) (r : Joined) → Filled order x before₀ before i →
-    JoinedTo order x before buf (i - 1) r → s ≡ min k (r .part) → length x ≤ length before₀ → length x ≤ maxLength → StoreReady buf (i - 1) (r .end) s
-filled-store-ready order x before₀ before buf i k s r f w e fits small =
-    store-ready order x before buf (i - 1) k s r w e (omega (arith, f .others .size)) small
+pub filled-store-ready : (order : ℕ) (x before₀ before buf : List ℕ) (i k : ℕ) (r : Joined) → Filled order x before₀ before i →
+    JoinedTo order x before buf (i - 1) r → length x ≤ length before₀ → length x ≤ maxLength → StoreReady buf (i - 1) (r .end) (min k (r .part))
+filled-store-ready order x before₀ before buf i k r f w fits small =
+    store-ready order x before buf (i - 1) k r w (omega (arith, f .others .size)) small
 
 -- The length of the word from i is stored.
 pub filled-store : (order : ℕ) (x before₀ before after : List ℕ) (i e k g s : ℕ) → Filled order x before₀ before (i + 1) → length x ≤ length before₀ →
@@ -141,14 +141,14 @@ filled-store order x before₀ before after i e k g s f fits changed joining nex
             omega (arith, p)
 
 -- One position more has been joined.
-pub filled-step : (order : ℕ) (x before₀ before joined after : List ℕ) (i s : ℕ) (r : Joined) → Filled order x before₀ before i → 0 < i →
-    length x ≤ length before₀ → JoinedTo order x before joined (i - 1) r → s ≡ min (r .agreed) (r .part) →
-    after ≡ storedAt joined (i - 1) (r .end) s → Filled order x before₀ after (i - 1)
-filled-step order x before₀ before joined after i s r f p fits w e stored =
+pub filled-step : (order : ℕ) (x before₀ before joined after : List ℕ) (i : ℕ) (r : Joined) → Filled order x before₀ before i → 0 < i →
+    length x ≤ length before₀ → JoinedTo order x before joined (i - 1) r → after ≡ storedAt joined (i - 1) (r .end) (min (r .agreed) (r .part)) →
+    Filled order x before₀ after (i - 1)
+filled-step order x before₀ before joined after i r f p fits w stored =
     let z : i ≡ i - 1 + 1 = omega arith in
     rw stored
-    (filled-store order x before₀ before joined (i - 1) (r .end) (r .agreed) (r .part) s (subst (λ (k : ℕ). Filled order x before₀ before k) z f)
-    fits (w .changed) (w .joining) (w .next) (omega arith) (omega arith))
+    (filled-store order x before₀ before joined (i - 1) (r .end) (r .agreed) (r .part) (min (r .agreed) (r .part))
+    (subst (λ (k : ℕ). Filled order x before₀ before k) z f) fits (w .changed) (w .joining) (w .next) (omega arith) (omega arith))
 
 -- Every position has been joined.
 pub filled-end : (order : ℕ) (x before buf : List ℕ) (i : ℕ) → Filled order x before buf i → i ≤ 0 → Filled order x before buf 0

@@ -16,7 +16,8 @@ use Rattle.array.proofs.LastPlace.{restored-factor}
 use Rattle.array.proofs.RowLaws.{Front, rows-same, front}
 
 -- A single letter, before anything is joined to it.
-pub joining-start : {A : Type 0} {O : Letters A} {x : ℕ → A} {n : ℕ} {lam buf : ℕ → ℕ} {i : ℕ} → i < n → Rows x n lam buf (suc i) → Joining O x n lam buf i (suc i) 0 0
+pub joining-start : {A : Type 0} {O : Letters A} {x : ℕ → A} {n : ℕ} {lam buf : ℕ → ℕ} {i : ℕ} → i < n → Rows x n lam buf (suc i) →
+    Joining O x n lam buf i (suc i) 0 0
 joining-start l r =
     record {
       lyndon = record { non-empty = omega arith; below = λ k p q. absurd (omega arith) };

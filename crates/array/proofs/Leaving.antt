@@ -12,7 +12,8 @@ use Rattle.words.specs.Letters.{Letters, Smaller}
 use Rattle.array.proofs.Known.{agreement-short}
 
 -- The factor at j is not smaller than the word before it: their first different letters say so.
-pub leave-letter : {A : Type 0} {O : Letters A} {x : ℕ → A} {n : ℕ} {i j : ℕ} (k : ℕ) → SpanLyndon O x i j → j + k < n → Agree x i j k → Smaller O (x (j + k)) (x (i + k)) → NextSmaller O x n i j
+pub leave-letter : {A : Type 0} {O : Letters A} {x : ℕ → A} {n i j : ℕ} (k : ℕ) → SpanLyndon O x i j → j + k < n → Agree x i j k →
+    Smaller O (x (j + k)) (x (i + k)) → NextSmaller O x n i j
 leave-letter {O = O} {x} {n} {i} {j} k w l g s =
     lyndon-next O x n i j w (omega arith)
     (parts k l (omega (arith, w .non-empty)) (agree-sym x i j k g) s)

@@ -15,6 +15,7 @@ use Rattle.words.specs.Letters.{orderOf}
 use Rattle.letters.specs.declared.Comparison.{Comparison}
 use Rattle.letters.specs.declared.Comparison.the-variants.{Below, Same, Above}
 use Rattle.array.specs.declared.joined.Joined.{Joined}
+use Rattle.array.specs.Core.Fill.{Filled}
 use Rattle.array.specs.Core.Join.{SameWord, Stopped, JoinedTo, Agreeing}
 use Rattle.array.specs.Core.Joining.{Joining}
 use Rattle.array.specs.Core.Place.{storedAt}
@@ -109,11 +110,12 @@ module _ (order : ℕ) (x before buf : List ℕ) (i : ℕ) (r : Joined) (w : Joi
   never-below list count e = absurd (subst (λ (c : Comparison). Stopped order x i (r .end) (r .agreed) c) e (w .stopped))
 
 -- A visited position: its row is stored, and its run is listed.
-pub visited : (order : ℕ) (x before buf after list list′ : List ℕ) (i s k count m : ℕ) (r : Joined) → RowsOf order x before (i + 1) →
-    length x ≤ length before → JoinedTo order x before buf i r → ExtendedTo x i (r .end) k (r .stop) → s ≡ min k (r .part) →
-    after ≡ storedAt buf i (r .end) s → Listed order x list list′ i count m → Visited order x before after list list′ i count m
-visited order x before buf after list list′ i s k count m r rows fits w e a stored l =
+pub visited : (order : ℕ) (x before buf after list list′ : List ℕ) (i k count m : ℕ) (r : Joined) → RowsOf order x before (i + 1) →
+    length x ≤ length before → JoinedTo order x before buf i r → ExtendedTo x i (r .end) k (r .stop) →
+    after ≡ storedAt buf i (r .end) (min k (r .part)) → Listed order x list list′ i count m → Visited order x before after list list′ i count m
+visited order x before buf after list list′ i k count m r rows fits w e stored l =
+    let kept : Filled order x before before (i + 1) = record { rows = rows; others = record { size = refl; kept = λ t h. refl } } in
     let f =
-    filled-store order x before before buf i (r .end) k (r .part) s (record { rows = rows; others = record { size = refl; kept = λ t h. refl } })
-    fits (w .changed) (extended-joining order x before buf i r w k e) (w .next) (omega arith) (omega arith) in
+    filled-store order x before before buf i (r .end) k (r .part) (min k (r .part)) kept fits (w .changed)
+    (extended-joining order x before buf i r w k e) (w .next) (omega arith) (omega arith) in
     rw stored (record { rows = f .rows; others = f .others; entry = l })

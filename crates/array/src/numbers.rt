@@ -108,10 +108,7 @@ fn fill(text: &[u32], order: u32, buf: &mut [u32])
     while 0 < i {
         i -= 1;
         let w = join(text, order, buf, i);
-        let end = w.end;
-        let agreed = w.agreed;
-        let part = w.part;
-        places::store(buf, i, end, places::smaller_of(agreed, part));
+        places::store_word(buf, i, w.end, w.agreed, w.part);
     }
 }
 

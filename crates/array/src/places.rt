@@ -6,7 +6,7 @@ ghost use Rattle.array.specs.Core.Place.{rememberedAt, restoredAt, Store
 ghost use Rattle.array.specs.Core.Fill.{HasRows, AllRestored};
 
 // The smaller of two numbers.
-pub(crate) fn smaller_of(a: usize, b: usize) -> usize
+fn smaller_of(a: usize, b: usize) -> usize
     ensures result { λ r. ⌜ r ≡ min a b ⌝ }
 {
     if a < b {
@@ -37,7 +37,7 @@ pub(crate) fn restore(buf: &mut [u32], j: usize, l: usize)
 }
 
 // Stores the length of the word from i to e, and s at its last place if it has two letters or more.
-pub(crate) fn store(buf: &mut [u32], i: usize, e: usize, s: usize)
+fn store(buf: &mut [u32], i: usize, e: usize, s: usize)
     requires { ⌜ StoreReady (now buf) i e s ⌝ }
     ensures content { λ r. ⌜ now (buf .exit) ≡ storedAt (now (buf .entry)) i e s ⌝ }
 {
@@ -46,6 +46,14 @@ pub(crate) fn store(buf: &mut [u32], i: usize, e: usize, s: usize)
     if 1 < l {
         buf[e - 1] = s as u32;
     }
+}
+
+// Stores the word from i to end, and at its last place how far it agrees with what follows and with its last part.
+pub(crate) fn store_word(buf: &mut [u32], i: usize, end: usize, agreed: usize, part: usize)
+    requires { ⌜ StoreReady (now buf) i end (min agreed part) ⌝ }
+    ensures content { λ r. ⌜ now (buf .exit) ≡ storedAt (now (buf .entry)) i end (min agreed part) ⌝ }
+{
+    store(buf, i, end, smaller_of(agreed, part));
 }
 
 // Gives the last places of all factors their entries back.

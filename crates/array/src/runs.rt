@@ -116,7 +116,7 @@ fn visit(
     let part = w.part;
     let stop = w.stop;
     let k = extended(text, buf, i, end, agreed, stop);
-    places::store(buf, i, end, places::smaller_of(k, part));
+    places::store_word(buf, i, end, k, part);
     match stop {
         Comparison::Above => list_at(text, order, list, count, i, end, k),
         Comparison::Same => count,

@@ -24,11 +24,8 @@ sub-i c = search needs
 join-requires : tie.Need-join-requires Inv-loop μ-loop
 join-requires c κs = search filled-ready
 
-smaller-of-requires : tie.Need-smaller-of-requires Inv-loop μ-loop
-smaller-of-requires c κs = search needs
-
-store-requires : tie.Need-store-requires Inv-loop μ-loop
-store-requires c κs = search filled-store-ready
+store-word-requires : tie.Need-store-word-requires Inv-loop μ-loop
+store-word-requires c κs = search filled-store-ready
 
 loop-less : tie.Need-loop-less Inv-loop μ-loop
 loop-less c = search needs
@@ -51,8 +48,7 @@ fill-spec =
     loop-holds
     sub-i
     join-requires
-    smaller-of-requires
-    store-requires
+    store-word-requires
     loop-less
     loop-again
     same-length

@@ -12,11 +12,8 @@ join-requires c κs = search needs
 extended-requires : tie.Need-extended-requires
 extended-requires c κs = search stopped-at
 
-smaller-of-requires : tie.Need-smaller-of-requires
-smaller-of-requires c κs = search needs
-
-store-requires : tie.Need-store-requires
-store-requires c κs = search store-ready
+store-word-requires : tie.Need-store-word-requires
+store-word-requires c κs = search store-ready
 
 enum-told : tie.Need-enum-told
 enum-told c = search needs
@@ -57,8 +54,7 @@ visit-spec =
     (tie.spec
     join-requires
     extended-requires
-    smaller-of-requires
-    store-requires
+    store-word-requires
     enum-told
     list-at-requires
     enum-told-2
