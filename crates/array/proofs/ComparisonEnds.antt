@@ -9,7 +9,7 @@ use native.Mathlib.Omega.{arith}
 use lib.ListN.{length, getD}
 use Rattle.words.specs.Laws.Position.{Agree, SpanLess, differs, shorter}
 use Rattle.words.specs.Laws.SpanLyndon.{letters}
-use Rattle.words.specs.Laws.SuffixOrder.{ends, NextSmaller, agree-less}
+use Rattle.words.specs.Laws.SuffixOrder.{NextSmaller, agree-less}
 use Rattle.words.specs.Letters.{decided-order, Smaller, orderOf}
 use Rattle.letters.specs.declared.Comparison.{Comparison}
 use Rattle.letters.specs.declared.Comparison.the-variants.{Below, Same, Above}

@@ -8,7 +8,7 @@ use native.Mathlib.Omega.{arith}
 use lib.ListN.{length, getD}
 use Rattle.words.specs.Laws.SpanLyndon.{letters}
 use Rattle.words.specs.Laws.SuffixOrder.{ends, NextSmaller}
-use Rattle.words.specs.Letters.{Letters, orderOf}
+use Rattle.words.specs.Letters.{Letters}
 use Rattle.array.specs.Core.Fill.{KeptFrom, HasRows, AllRestored}
 use Rattle.array.specs.Core.Place.{restoredAt}
 use Rattle.array.specs.Core.Rows.{Rows, entryOf, RowsOf}

@@ -39,4 +39,17 @@ returns-5 : tie.Need-returns-5
 returns-5 c = search array-accepted
 
 pub array-answer-spec : {M : Type 1} → statement M
-array-answer-spec = tie.close (tie.spec refused-requires returns refused-requires-2 returns-2 refused-requires-3 returns-3 refused-requires-4 returns-4 cast-accepted accepted-requires returns-5)
+array-answer-spec =
+    tie.close
+    (tie.spec
+    refused-requires
+    returns
+    refused-requires-2
+    returns-2
+    refused-requires-3
+    returns-3
+    refused-requires-4
+    returns-4
+    cast-accepted
+    accepted-requires
+    returns-5)

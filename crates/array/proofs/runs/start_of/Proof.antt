@@ -1,7 +1,6 @@
 -- `array::runs::start_of` meets its contract: the letters from s up to i continue the period.
 -- Assumes nothing.
 use borrow.Author.Needs.{needs}
-use native.Mathlib.Omega.{arith}
 use Rattle.array.proofs.LeftExtension.{LeftSoFar, left-start, left-more, left-stop, left-end}
 use Rattle.array.proofs.runs.start_of.Statement.{statement}
 use Rattle.array.proofs.runs.start_of.Tie as tie

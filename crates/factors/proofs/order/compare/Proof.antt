@@ -1,6 +1,5 @@
 -- `factors::order::compare` meets its contract: the default order is order 0.
 -- Assumes nothing.
-use mathlib.Core.Path.{_∙_}
 use borrow.Author.Needs.{needs}
 use Rattle.factors.proofs.order.compare.Statement.{statement}
 use Rattle.factors.proofs.order.compare.Tie as tie
