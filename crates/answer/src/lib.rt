@@ -57,7 +57,7 @@ pub struct Answer {
 
 // The answer to an accepted input, with its count.
 pub fn accepted(count: u32) -> Answer
-    ensures { λ r. ⌜ r ≡ acceptedWith count ⌝ }
+    ensures answer { λ r. ⌜ r ≡ acceptedWith count ⌝ }
 {
     Answer {
         outcome: Outcome::Accepted { count },
@@ -66,7 +66,7 @@ pub fn accepted(count: u32) -> Answer
 
 // The answer to a refused input, with the reason and the position.
 pub fn refused(reason: Reason, position: u32) -> Answer
-    ensures { λ r. ⌜ r ≡ refusedFor reason position ⌝ }
+    ensures answer { λ r. ⌜ r ≡ refusedFor reason position ⌝ }
 {
     Answer {
         outcome: Outcome::Refused { reason, position },
@@ -75,7 +75,7 @@ pub fn refused(reason: Reason, position: u32) -> Answer
 
 // The number that document 01 gives a reason.
 pub fn number_of(reason: Reason) -> u32
-    ensures { λ r. ⌜ r ≡ numberOf reason ⌝ }
+    ensures number { λ r. ⌜ r ≡ numberOf reason ⌝ }
 {
     match reason {
         Reason::EmptyText => 1,
@@ -98,7 +98,7 @@ pub fn number_of(reason: Reason) -> u32
 
 // The number of an answer: 0 where it accepts, else the reason's.
 pub fn number(a: Answer) -> u32
-    ensures { λ r. ⌜ r ≡ number a ⌝ }
+    ensures number { λ r. ⌜ r ≡ number a ⌝ }
 {
     let outcome = a.outcome;
     match outcome {
@@ -112,7 +112,7 @@ pub fn number(a: Answer) -> u32
 
 // The value of an answer: the count where it accepts, else the position.
 pub fn value(a: Answer) -> u32
-    ensures { λ r. ⌜ r ≡ value a ⌝ }
+    ensures value { λ r. ⌜ r ≡ value a ⌝ }
 {
     let outcome = a.outcome;
     match outcome {

@@ -13,35 +13,35 @@ pub const MAX_INPUT: usize = 8_192;
 
 // `MAX_LENGTH`, as the limit that contracts name.
 pub fn max_length() -> usize
-    ensures { λ r. ⌜ r ≡ maxLength ⌝ }
+    ensures limit { λ r. ⌜ r ≡ maxLength ⌝ }
 {
     MAX_LENGTH
 }
 
 // `MAX_LETTERS`, as the limit that contracts name.
 pub fn max_letters() -> usize
-    ensures { λ r. ⌜ r ≡ maxLetters ⌝ }
+    ensures limit { λ r. ⌜ r ≡ maxLetters ⌝ }
 {
     MAX_LETTERS
 }
 
 // `MAX_INPUT`, as the limit that contracts name.
 pub fn max_input() -> usize
-    ensures { λ r. ⌜ r ≡ maxInput ⌝ }
+    ensures limit { λ r. ⌜ r ≡ maxInput ⌝ }
 {
     MAX_INPUT
 }
 
 // The length that the run list of a text of n letters needs.
 pub fn run_list_length(n: u32) -> usize
-    ensures { λ r. ⌜ r ≡ runListLength n ⌝ }
+    ensures length { λ r. ⌜ r ≡ runListLength n ⌝ }
 {
     6 * (n as usize)
 }
 
 // The length that the work buffer of the runs needs.
 pub fn work_length(n: u32) -> usize
-    ensures { λ r. ⌜ r ≡ workLength n ⌝ }
+    ensures length { λ r. ⌜ r ≡ workLength n ⌝ }
 {
     2 * (n as usize)
 }

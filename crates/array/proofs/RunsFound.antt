@@ -1,18 +1,16 @@
 -- Both passes and the sort together: the run list, and the two arrays in the work buffer.
 -- Assumes nothing.
 use mathlib.Core.Path.{_≡_, refl, sym, ap, subst, _∙_}
-use mathlib.Core.List.{List, [], _∷_, _++_, List·Memᴰ, append-assoc, append-nil}
-use Prim.Native.Nat.{ℕ, zero, suc, _+_, _-_, _*_, _<_, _≤_}
+use mathlib.Core.List.{List, [], _∷_, _++_, append-assoc, append-nil}
+use Prim.Native.Nat.{ℕ, suc, _+_, _-_, _*_, _≤_}
 use native.Mathlib.Omega.{arith}
-use lib.ListN.{length, getD, set, take, drop, length-append, length-drop, length-take, take-append-drop, drop-of-length-le}
+use lib.ListN.{length, set, take, drop, length-append, length-drop, drop-of-length-le}
 use lib.Seq.{set-at, take-at, drop-at, drop-drop, take-all}
-use Rattle.words.specs.Letters.{rising, falling, orderOf}
+use Rattle.words.specs.Letters.{rising}
 use Rattle.words.specs.Decided.{decided-rising, decided-falling, decided-order}
 use Rattle.words.specs.Equality.{decided-number-equality}
-use Rattle.words.specs.Runs.{Entry, IsRunList, numbers}
-use Rattle.words.specs.Laws.SpanLyndon.{letters}
-use Rattle.words.specs.Laws.RunMarks.{endBound}
-use Rattle.words.specs.Laws.EachRunOnce.{ListsDown, EachRunOnce, each-run-once, rearranged-run-list}
+use Rattle.words.specs.Runs.{Entry, numbers}
+use Rattle.words.specs.Laws.EachRunOnce.{EachRunOnce, each-run-once, rearranged-run-list}
 use Rattle.words.specs.Laws.Runs.{run-list-unique, numbers-length}
 use Rattle.words.specs.Compute.LyndonArray.{arrayOf, arrayOf-holds}
 use Rattle.words.specs.Laws.RunSearch.{runsOf-holds}
@@ -20,12 +18,12 @@ use Rattle.answer.specs.Checks.{written}
 use Rattle.sorting.specs.Exchange.{put}
 use Rattle.sorting.specs.Triples.{AfterSort}
 use Rattle.sorting.specs.RunList.{RunsSorted, runs-sorted, sorted-member, member-sorted, sorted-length}
-use Rattle.array.specs.Calls.{runList, runNumbers, bothArrays}
-use Rattle.array.specs.Core.State.{letters-compared}
+use Rattle.array.specs.Calls.{runList, bothArrays}
+use Rattle.array.proofs.Entries.{letters-compared}
 use Rattle.array.specs.Core.RunPass.{putAll, Passing, OrderDone, RunsFound}
 use Rattle.array.specs.Core.Fill.{AllRestored}
-use Rattle.array.proofs.FillLaws.{array-written}
-use Rattle.array.proofs.RunLaws.{putAll-append, putAll-length}
+use Rattle.array.proofs.ArrayWritten.{array-written}
+use Rattle.array.proofs.PutAll.{putAll-append}
 
 -- One entry put behind k others.
 put-behind : (p q : List ℕ) (k a b c : ℕ) (r : Entry) → length p ≡ 3 * k → put (p ++ (a ∷ b ∷ c ∷ q)) k r ≡ (p ++ numbers (r ∷ [])) ++ q
@@ -87,7 +85,8 @@ module _ (x : List ℕ) (work work₁ part list list₁ list₂ list₃ : List �
   is-list : sorted .entries ≡ runList x
   is-list =
       run-list-unique
-      (rearranged-run-list x (a .entries ++ b .entries) (sorted .entries) once (member-sorted sorted) (sorted-member sorted) (sorted-length sorted) (sorted .ordered))
+      (rearranged-run-list x (a .entries ++ b .entries) (sorted .entries) once (member-sorted sorted) (sorted-member sorted)
+      (sorted-length sorted) (sorted .ordered))
       (runsOf-holds decided-number-equality x)
 
   size : (order : ℕ) → length (arrayOf (decided-order order) x) ≡ length x

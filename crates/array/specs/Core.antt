@@ -1,6 +1,7 @@
+pub mod Rows
+pub mod Place
 pub mod Joining
-pub mod State
-pub mod Order
 pub mod Join
 pub mod Fill
+pub mod RunExtent
 pub mod RunPass

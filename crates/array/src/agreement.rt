@@ -4,7 +4,7 @@ ghost use Rattle.array.specs.CommonPrefix.{commonPrefix};
 
 // The length of the longest common prefix of two words.
 pub(crate) fn common_prefix(u: &[u8], v: &[u8]) -> usize
-    ensures { λ r. ⌜ r ≡ commonPrefix (now (u .entry)) (now (v .entry)) ⌝ }
+    ensures result { λ r. ⌜ r ≡ commonPrefix (now (u .entry)) (now (v .entry)) ⌝ }
 {
     let mut k: usize = 0;
     while k < u.len() {

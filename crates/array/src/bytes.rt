@@ -1,95 +1,83 @@
 // The Lyndon array of a text of bytes.
-use crate::joined::Comparison;
+use crate::checks;
 use crate::joined::Joined;
 use crate::places;
 use answer::Answer;
-use answer::Reason;
-use answer::limits;
+use answer::Outcome;
+use letters::Comparison;
 ghost use mathlib.Core.Path.{_≡_};
 ghost use Prim.Native.Nat.{_+_, _-_, _≤_, _<_};
 ghost use lib.ListN.{length};
-ghost use Rattle.answer.specs.Limits.{maxLength};
-ghost use Rattle.array.specs.Core.State.{RowsOf};
-ghost use Rattle.array.specs.Core.Order.{smallerIn};
-ghost use Rattle.array.specs.Core.Join.{JoinedTo};
-ghost use Rattle.array.specs.Core.Fill.{Filled};
+ghost use Rattle.array.specs.Core.Join.{JoinReady, JoinedTo};
+ghost use Rattle.array.specs.Core.Fill.{TextFits, Filled};
 ghost use Rattle.array.specs.Calls.{arrayAnswer};
 ghost use Rattle.answer.specs.Checks.{written, contentAfter};
 ghost use Rattle.words.specs.Decided.{decided-order};
 ghost use Rattle.words.specs.Compute.LyndonArray.{arrayOf};
 
-// Letter a is the smaller one of two different letters.
-fn smaller(a: u8, b: u8, order: u32) -> bool
-    ensures { λ r. ⌜ r ≡ smallerIn order a b ⌝ }
-{
-    if order == 0 {
-        return a < b;
-    }
-    b < a
-}
-
 // Joins to the letter at i the factors after it, as long as the word so far is smaller than the next factor.
 pub(crate) fn join(text: &[u8], order: u32, buf: &mut [u32], i: usize) -> Joined
-    requires { ⌜ (i < length (now text)) × (length (now text) ≤ length (now buf)) × (length (now text) ≤ maxLength) × RowsOf order (now text) (now buf) (i + 1) ⌝ }
-    ensures { λ r. ⌜ JoinedTo order (now (text .entry)) (now (buf .entry)) (now (buf .exit)) i r ⌝ }
+    requires { ⌜ JoinReady order (now text) (now buf) i ⌝ }
+    ensures content { λ r. ⌜ JoinedTo order (now (text .entry)) (now (buf .entry)) (now (buf .exit)) i r ⌝ }
 {
     let n = text.len();
     let mut j = i + 1;
     let mut k: usize = 0;
-    let mut g: usize = 0;
+    let mut part: usize = 0;
     while j < n {
-        let l = places::wide(buf[j]);
-        let d = j - i;
-        let s = places::remembered(buf, j, l);
+        // The lengths of the next factor and of the word so far, and what is remembered of the factor.
+        let factor = letters::wide(buf[j]);
+        let word = j - i;
+        let known = places::remembered(buf, j, factor);
         // Compares the word so far with the next factor, from the letters that are known to agree. Where the word ends first, below is
         // settled, and the loop goes on only to measure how far they agree.
-        let c = loop {
-            if l <= k {
-                if d == l {
+        let outcome = loop {
+            if factor <= k {
+                if word == factor {
                     break Comparison::Same;
                 } else {
                     // The factor is a proper prefix of the word.
                     break Comparison::Above;
                 }
             }
-            let a = text[i + k];
-            let b = text[j + k];
+            let a = letters::letter(text[i + k]);
+            let b = letters::letter(text[j + k]);
             if a != b {
-                if d <= k {
+                if word <= k {
                     break Comparison::Below;
                 }
-                if smaller(a, b, order) {
+                if letters::smaller(a, b, order) {
                     break Comparison::Below;
                 }
                 break Comparison::Above;
             }
             k += 1;
-            if k == d {
-                if d < l {
-                    if s < d {
+            if k == word {
+                if word < factor {
+                    if known < word {
                         break Comparison::Below;
                     }
-                    if d + places::wide(buf[j + d]) == l {
-                        k = d + s;
+                    if word + letters::wide(buf[j + word]) == factor {
+                        k = word + known;
                         break Comparison::Below;
                     }
                 }
             }
         };
-        match c {
+        match outcome {
             Comparison::Below => {
-                places::restore(buf, j, l);
-                g = k;
-                if s < k {
-                    k = s;
+                places::restore(buf, j, factor);
+                part = k;
+                if known < k {
+                    k = known;
                 }
-                j += l;
+                j += factor;
             }
             Comparison::Same => {
                 return Joined {
                     end: j,
                     agreed: k,
-                    part: g,
+                    part,
                     stop: Comparison::Same,
                 };
             }
@@ -97,7 +85,7 @@ pub(crate) fn join(text: &[u8], order: u32, buf: &mut [u32], i: usize) -> Joined
                 return Joined {
                     end: j,
                     agreed: k,
-                    part: g,
+                    part,
                     stop: Comparison::Above,
                 };
             }
@@ -106,31 +94,28 @@ pub(crate) fn join(text: &[u8], order: u32, buf: &mut [u32], i: usize) -> Joined
     Joined {
         end: j,
         agreed: k,
-        part: g,
+        part,
         stop: Comparison::Above,
     }
 }
 
 // Joins at every position from the last to the first.
 fn fill(text: &[u8], order: u32, buf: &mut [u32])
-    requires { ⌜ (length (now text) ≤ length (now buf)) × (length (now text) ≤ maxLength) ⌝ }
-    ensures { λ r. ⌜ Filled order (now (text .entry)) (now (buf .entry)) (now (buf .exit)) 0 ⌝ }
+    requires { ⌜ TextFits (now text) (now buf) ⌝ }
+    ensures content { λ r. ⌜ Filled order (now (text .entry)) (now (buf .entry)) (now (buf .exit)) 0 ⌝ }
 {
     let mut i = text.len();
     while 0 < i {
         i -= 1;
         let w = join(text, order, buf, i);
-        let end = w.end;
-        let agreed = w.agreed;
-        let part = w.part;
-        places::store(buf, i, end, places::smaller_of(agreed, part));
+        places::store_word(buf, i, w.end, w.agreed, w.part);
     }
 }
 
 // Writes the Lyndon array of the text.
 fn compute(text: &[u8], order: u32, buf: &mut [u32])
-    requires { ⌜ (length (now text) ≤ length (now buf)) × (length (now text) ≤ maxLength) ⌝ }
-    ensures { λ r. ⌜ now (buf .exit) ≡ written (arrayOf (decided-order order) (now (text .entry))) (now (buf .entry)) ⌝ }
+    requires { ⌜ TextFits (now text) (now buf) ⌝ }
+    ensures content { λ r. ⌜ now (buf .exit) ≡ written (arrayOf (decided-order order) (now (text .entry))) (now (buf .entry)) ⌝ }
 {
     fill(text, order, buf);
     places::restore_all(buf, text.len());
@@ -142,19 +127,16 @@ pub fn lyndon_array(text: &[u8], order: u32, out: &mut [u32]) -> Answer
     ensures answer { λ r. ⌜ r ≡ arrayAnswer (length (now (text .entry))) order (length (now (out .entry))) ⌝ }
     ensures content { λ r. ⌜ now (out .exit) ≡ contentAfter r (arrayOf (decided-order order) (now (text .entry))) (now (out .entry)) ⌝ }
 {
-    let n = text.len();
-    if n == 0 {
-        return answer::refused(Reason::EmptyText, 0);
+    let told = checks::array_answer(text.len(), order, out.len());
+    let outcome = told.outcome;
+    match outcome {
+        Outcome::Accepted { count: _ } => {
+            compute(text, order, out);
+            told
+        }
+        Outcome::Refused {
+            reason: _,
+            position: _,
+        } => told,
     }
-    if limits::MAX_LENGTH < n {
-        return answer::refused(Reason::TextTooLong, 0);
-    }
-    if 1 < order {
-        return answer::refused(Reason::UnknownOrder, 0);
-    }
-    if out.len() < n {
-        return answer::refused(Reason::ShortOutput, 0);
-    }
-    compute(text, order, out);
-    answer::accepted(n as u32)
 }

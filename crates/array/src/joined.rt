@@ -1,11 +1,5 @@
-// What the comparison of two neighbouring factors says, and what a join loop hands back.
-
-// Document 01's below, same or above.
-pub enum Comparison {
-    Below,
-    Same,
-    Above,
-}
+// What a join loop hands back.
+use letters::Comparison;
 
 // The word from a position was joined up to `end`: it agrees with what follows on `agreed` letters and with its last part on `part`;
 // `stop` is the comparison that ended the joining, `Above` at the end of the text.

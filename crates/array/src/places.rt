@@ -1,21 +1,13 @@
 // The places of the output buffer while the array is being made: small functions that know nothing of letters.
 ghost use mathlib.Core.Path.{_≡_};
-ghost use Prim.Native.Nat.{_+_, _-_, _≤_, _<_, min};
+ghost use Prim.Native.Nat.{_+_, _≤_, min};
 ghost use lib.ListN.{length};
-ghost use Rattle.answer.specs.Limits.{maxLength};
-ghost use Rattle.array.specs.Core.State.{rememberedAt, restoredAt, storedAt};
+ghost use Rattle.array.specs.Core.Place.{rememberedAt, restoredAt, StoreReady, storedAt};
 ghost use Rattle.array.specs.Core.Fill.{HasRows, AllRestored};
 
-// A stored number as a position.
-pub(crate) fn wide(x: u32) -> usize
-    ensures { λ r. ⌜ r ≡ x ⌝ }
-{
-    x as usize
-}
-
 // The smaller of two numbers.
-pub(crate) fn smaller_of(a: usize, b: usize) -> usize
-    ensures { λ r. ⌜ r ≡ min a b ⌝ }
+fn smaller_of(a: usize, b: usize) -> usize
+    ensures result { λ r. ⌜ r ≡ min a b ⌝ }
 {
     if a < b {
         return a;
@@ -26,10 +18,10 @@ pub(crate) fn smaller_of(a: usize, b: usize) -> usize
 // The number remembered at the last place of the factor of length l at j.
 pub(crate) fn remembered(buf: &[u32], j: usize, l: usize) -> usize
     requires { ⌜ j + l ≤ length (now buf) ⌝ }
-    ensures { λ r. ⌜ r ≡ rememberedAt (now (buf .entry)) j l ⌝ }
+    ensures result { λ r. ⌜ r ≡ rememberedAt (now (buf .entry)) j l ⌝ }
 {
     if 1 < l {
-        return wide(buf[j + l - 1]);
+        return letters::wide(buf[j + l - 1]);
     }
     0
 }
@@ -37,7 +29,7 @@ pub(crate) fn remembered(buf: &[u32], j: usize, l: usize) -> usize
 // Gives the last place of the factor of length l at j its entry back.
 pub(crate) fn restore(buf: &mut [u32], j: usize, l: usize)
     requires { ⌜ j + l ≤ length (now buf) ⌝ }
-    ensures { λ r. ⌜ now (buf .exit) ≡ restoredAt (now (buf .entry)) j l ⌝ }
+    ensures content { λ r. ⌜ now (buf .exit) ≡ restoredAt (now (buf .entry)) j l ⌝ }
 {
     if 1 < l {
         buf[j + l - 1] = 1;
@@ -45,9 +37,9 @@ pub(crate) fn restore(buf: &mut [u32], j: usize, l: usize)
 }
 
 // Stores the length of the word from i to e, and s at its last place if it has two letters or more.
-pub(crate) fn store(buf: &mut [u32], i: usize, e: usize, s: usize)
-    requires { ⌜ (i < e) × (e ≤ length (now buf)) × (e ≤ maxLength) × (1 < e - i → s ≤ maxLength) ⌝ }
-    ensures { λ r. ⌜ now (buf .exit) ≡ storedAt (now (buf .entry)) i e s ⌝ }
+fn store(buf: &mut [u32], i: usize, e: usize, s: usize)
+    requires { ⌜ StoreReady (now buf) i e s ⌝ }
+    ensures content { λ r. ⌜ now (buf .exit) ≡ storedAt (now (buf .entry)) i e s ⌝ }
 {
     let l = e - i;
     buf[i] = l as u32;
@@ -56,14 +48,22 @@ pub(crate) fn store(buf: &mut [u32], i: usize, e: usize, s: usize)
     }
 }
 
+// Stores the word from i to end, and at its last place how far it agrees with what follows and with its last part.
+pub(crate) fn store_word(buf: &mut [u32], i: usize, end: usize, agreed: usize, part: usize)
+    requires { ⌜ StoreReady (now buf) i end (min agreed part) ⌝ }
+    ensures content { λ r. ⌜ now (buf .exit) ≡ storedAt (now (buf .entry)) i end (min agreed part) ⌝ }
+{
+    store(buf, i, end, smaller_of(agreed, part));
+}
+
 // Gives the last places of all factors their entries back.
 pub(crate) fn restore_all(buf: &mut [u32], n: usize)
     requires { ⌜ HasRows (now buf) n ⌝ }
-    ensures { λ r. ⌜ AllRestored (now (buf .entry)) (now (buf .exit)) n ⌝ }
+    ensures content { λ r. ⌜ AllRestored (now (buf .entry)) (now (buf .exit)) n ⌝ }
 {
     let mut j: usize = 0;
     while j < n {
-        let l = wide(buf[j]);
+        let l = letters::wide(buf[j]);
         restore(buf, j, l);
         j += l;
     }

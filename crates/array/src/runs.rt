@@ -1,18 +1,18 @@
 // The list of all runs of a text of bytes.
 use crate::agreement;
 use crate::bytes;
-use crate::joined::Comparison;
 use crate::places;
 use answer::Answer;
 use answer::Reason;
 use answer::limits;
+use letters::Comparison;
 ghost use mathlib.Core.Path.{_≡_};
 ghost use Prim.Native.Nat.{_+_, _-_, _*_, _≤_, _<_};
 ghost use lib.ListN.{length};
 ghost use Rattle.answer.specs.Limits.{maxLength};
-ghost use Rattle.array.specs.Core.State.{RowsOf};
 ghost use Rattle.sorting.specs.Exchange.{put};
-ghost use Rattle.array.specs.Core.RunPass.{StoppedAt, ExtendedTo, LeftExtent, AtRoot, Listed, Visited, Passing, OrderDone, RunsFound};
+ghost use Rattle.array.specs.Core.RunExtent.{StoppedAt, ExtendedTo, LeftExtent, AtRoot};
+ghost use Rattle.array.specs.Core.RunPass.{Listed, VisitReady, Visited, Passing, OrderDone, RunsFound};
 ghost use Rattle.array.specs.Calls.{runsAnswer, runNumbers, bothArrays};
 ghost use Rattle.answer.specs.Checks.{contentAfter};
 
@@ -27,14 +27,14 @@ fn extended(
     stop: Comparison,
 ) -> usize
     requires { ⌜ StoppedAt (now text) (now buf) i end agreed stop ⌝ }
-    ensures { λ r. ⌜ ExtendedTo (now (text .entry)) i end r stop ⌝ }
+    ensures result { λ r. ⌜ ExtendedTo (now (text .entry)) i end r stop ⌝ }
 {
     if text.len() <= end {
         return 0;
     }
     match stop {
         Comparison::Above => {
-            if agreed < places::wide(buf[end]) {
+            if agreed < letters::wide(buf[end]) {
                 return agreed;
             }
             let u = &text[i + agreed..];
@@ -49,7 +49,7 @@ fn extended(
 // The start of the letters before i that continue period p to the left.
 fn start_of(text: &[u8], i: usize, p: usize) -> usize
     requires { ⌜ i + p ≤ length (now text) ⌝ }
-    ensures { λ r. ⌜ LeftExtent (now (text .entry)) i p r ⌝ }
+    ensures result { λ r. ⌜ LeftExtent (now (text .entry)) i p r ⌝ }
 {
     let mut s = i;
     while 0 < s {
@@ -64,7 +64,7 @@ fn start_of(text: &[u8], i: usize, p: usize) -> usize
 // Writes an entry of the list.
 fn write_entry(list: &mut [u32], count: usize, start: usize, last: usize, period: usize)
     requires { ⌜ (3 * count + 3 ≤ length (now list)) × (start ≤ maxLength) × (last ≤ maxLength) × (period ≤ maxLength) ⌝ }
-    ensures { λ r. ⌜ now (list .exit) ≡ put (now (list .entry)) count (record { start = start; last = last; period = period }) ⌝ }
+    ensures content { λ r. ⌜ now (list .exit) ≡ put (now (list .entry)) count (record { start = start; last = last; period = period }) ⌝ }
 {
     list[3 * count] = start as u32;
     list[3 * count + 1] = last as u32;
@@ -82,7 +82,7 @@ fn list_at(
     k: usize,
 ) -> usize
     requires { ⌜ AtRoot order (now text) i end k × (3 * count + 3 ≤ length (now list)) × (length (now text) ≤ maxLength) ⌝ }
-    ensures { λ r. ⌜ Listed order (now (text .entry)) (now (list .entry)) (now (list .exit)) i count r ⌝ }
+    ensures content { λ r. ⌜ Listed order (now (text .entry)) (now (list .entry)) (now (list .exit)) i count r ⌝ }
 {
     let p = end - i;
     let s = start_of(text, i, p);
@@ -107,8 +107,8 @@ fn visit(
     count: usize,
     i: usize,
 ) -> usize
-    requires { ⌜ (i < length (now text)) × (length (now text) ≤ length (now buf)) × (length (now text) ≤ maxLength) × (3 * count + 3 ≤ length (now list)) × RowsOf order (now text) (now buf) (i + 1) ⌝ }
-    ensures { λ r. ⌜ Visited order (now (text .entry)) (now (buf .entry)) (now (buf .exit)) (now (list .entry)) (now (list .exit)) i count r ⌝ }
+    requires { ⌜ VisitReady order (now text) (now buf) (now list) count i ⌝ }
+    ensures content { λ r. ⌜ Visited order (now (text .entry)) (now (buf .entry)) (now (buf .exit)) (now (list .entry)) (now (list .exit)) i count r ⌝ }
 {
     let w = bytes::join(text, order, buf, i);
     let end = w.end;
@@ -116,7 +116,7 @@ fn visit(
     let part = w.part;
     let stop = w.stop;
     let k = extended(text, buf, i, end, agreed, stop);
-    places::store(buf, i, end, places::smaller_of(k, part));
+    places::store_word(buf, i, end, k, part);
     match stop {
         Comparison::Above => list_at(text, order, list, count, i, end, k),
         Comparison::Same => count,
@@ -127,7 +127,7 @@ fn visit(
 // Visits every position from the last to the first.
 fn pass(text: &[u8], order: u32, buf: &mut [u32], list: &mut [u32], from: usize) -> usize
     requires { ⌜ (length (now text) ≤ length (now buf)) × (length (now text) ≤ maxLength) × (3 * from + 3 * length (now text) ≤ length (now list)) ⌝ }
-    ensures { λ r. ⌜ Passing order (now (text .entry)) (now (buf .entry)) (now (buf .exit)) (now (list .entry)) (now (list .exit)) from 0 r ⌝ }
+    ensures content { λ r. ⌜ Passing order (now (text .entry)) (now (buf .entry)) (now (buf .exit)) (now (list .entry)) (now (list .exit)) from 0 r ⌝ }
 {
     let mut i = text.len();
     let mut count = from;
@@ -141,7 +141,7 @@ fn pass(text: &[u8], order: u32, buf: &mut [u32], list: &mut [u32], from: usize)
 // One order: its array into the buffer, and the runs of that order into the list from entry `from` on; the number of entries then.
 fn order_pass(text: &[u8], order: u32, buf: &mut [u32], list: &mut [u32], from: usize) -> usize
     requires { ⌜ (length (now text) ≤ length (now buf)) × (length (now text) ≤ maxLength) × (3 * from + 3 * length (now text) ≤ length (now list)) ⌝ }
-    ensures { λ r. ⌜ OrderDone order (now (text .entry)) (now (buf .entry)) (now (buf .exit)) (now (list .entry)) (now (list .exit)) from r ⌝ }
+    ensures content { λ r. ⌜ OrderDone order (now (text .entry)) (now (buf .entry)) (now (buf .exit)) (now (list .entry)) (now (list .exit)) from r ⌝ }
 {
     let count = pass(text, order, buf, list, from);
     places::restore_all(buf, text.len());
@@ -151,7 +151,7 @@ fn order_pass(text: &[u8], order: u32, buf: &mut [u32], list: &mut [u32], from: 
 // Both orders, the runs sorted by start and then by last position; the number of runs.
 fn find(text: &[u8], work: &mut [u32], list: &mut [u32]) -> usize
     requires { ⌜ (length (now text) ≤ maxLength) × (6 * length (now text) ≤ length (now list)) × (2 * length (now text) ≤ length (now work)) ⌝ }
-    ensures { λ r. ⌜ RunsFound (now (text .entry)) (now (work .entry)) (now (work .exit)) (now (list .entry)) (now (list .exit)) r ⌝ }
+    ensures content { λ r. ⌜ RunsFound (now (text .entry)) (now (work .entry)) (now (work .exit)) (now (list .entry)) (now (list .exit)) r ⌝ }
 {
     let n = text.len();
     let first = order_pass(text, 0, work, list, 0);

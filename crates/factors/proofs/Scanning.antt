@@ -1,33 +1,17 @@
--- What holds at each turn of the scan's loop, and what the answer of a comparison says.
+-- What holds at each turn of the scan's loop.
 -- Assumes nothing.
-use mathlib.Core.Path.{_≡_, refl, sym, _∙_}
+use mathlib.Core.Path.{_≡_, sym, _∙_}
 use mathlib.Core.List.{List}
-use Prim.Native.Nat.{ℕ, zero, suc, _+_, _-_, _<_, _≤_}
+use Prim.Native.Nat.{ℕ, suc, _+_, _-_, _<_, _≤_}
 use native.Mathlib.Omega.{arith}
 use lib.ListN.{length}
-use Rattle.words.specs.Decided as words
-use Rattle.factors.specs.declared.order.Comparison.{Comparison}
-use Rattle.factors.specs.declared.order.Comparison.the-variants.{Below, Same, Above}
-use Rattle.factors.specs.Compared.{comparisonOf}
+use Rattle.letters.specs.declared.Comparison.{Comparison}
+use Rattle.letters.specs.declared.Comparison.the-variants.{Below, Same, Above}
+use Rattle.letters.specs.Compared.{comparisonOf}
+use Rattle.letters.proofs.Answers.{is-below, is-same, is-above}
 use Rattle.factors.specs.Default.{decided-default}
 use Rattle.factors.specs.Duval.{scanFrom, scanOf}
 use Rattle.factors.specs.DuvalSteps.{answerAt, scan-end, scan-below, scan-same, scan-above}
-
--- The answer that the code has is the one of the definition.
-pub is-below : (c : words.Comparison) → comparisonOf c ≡ Below → c ≡ words.below
-is-below words.below e = refl
-is-below words.same e = absurd (let z : _≡_ {A = ℕ} 0 1 = cc in omega arith)
-is-below words.above e = absurd (let z : _≡_ {A = ℕ} 0 1 = cc in omega arith)
-
-pub is-same : (c : words.Comparison) → comparisonOf c ≡ Same → c ≡ words.same
-is-same words.below e = absurd (let z : _≡_ {A = ℕ} 0 1 = cc in omega arith)
-is-same words.same e = refl
-is-same words.above e = absurd (let z : _≡_ {A = ℕ} 0 1 = cc in omega arith)
-
-pub is-above : (c : words.Comparison) → comparisonOf c ≡ Above → c ≡ words.above
-is-above words.below e = absurd (let z : _≡_ {A = ℕ} 0 1 = cc in omega arith)
-is-above words.same e = absurd (let z : _≡_ {A = ℕ} 0 1 = cc in omega arith)
-is-above words.above e = refl
 
 -- The scan from `start` has come to `end` with a period, and what it will find from there is what it finds.
 pub record Scanning (x : List ℕ) (start period end : ℕ) : Type 0 where

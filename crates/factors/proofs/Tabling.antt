@@ -3,7 +3,7 @@
 use mathlib.Core.Path.{_≡_, refl, sym, subst, _∙_}
 use mathlib.Core.Logic.{inl, inr}
 use mathlib.Core.List.{List}
-use Prim.Native.Nat.{ℕ, zero, suc, _+_, _-_, _<_, _≤_}
+use Prim.Native.Nat.{ℕ, suc, _+_, _-_, _<_, _≤_}
 use native.Mathlib.Omega.{arith}
 use native.Mathlib.Decide.{ℕ-discrete}
 use lib.ListN.{length, getD, set, length-set}
@@ -14,16 +14,16 @@ use Rattle.words.specs.Laws.SpanLyndon.{letters}
 use Rattle.words.specs.Laws.Repetition.{Repetition, letter-lyndon, repetition-start, repetition-longer, repetition-extended, lyndon-extended}
 use Rattle.words.specs.Laws.LowestSuffix.{Lowest, lowest-first, lowest-next}
 use Rattle.words.specs.Laws.LongestEnding.{LongestEnding, lowest-longest, repetition-longest, longest-ending, ending-longest}
-use Rattle.factors.specs.declared.order.Comparison.{Comparison}
-use Rattle.factors.specs.declared.order.Comparison.the-variants.{Below, Same, Above}
+use Rattle.letters.specs.declared.Comparison.{Comparison}
+use Rattle.letters.specs.declared.Comparison.the-variants.{Below, Same, Above}
+use Rattle.letters.specs.Compared.{comparisonOf}
+use Rattle.letters.proofs.Answers.{is-below, is-same, is-above}
 use Rattle.factors.specs.declared.scan.Stretch.{Stretch}
-use Rattle.factors.specs.Compared.{comparisonOf}
 use Rattle.factors.specs.Default.{defaultOrder, decided-default}
 use Rattle.factors.specs.DuvalSteps.{Bounded, answerAt}
 use Rattle.factors.specs.DuvalFactorization.{stopped-next, stopped-rest}
 use Rattle.factors.specs.Room.{Room}
 use Rattle.factors.specs.Results.{Tabled, Startable, Covered, Filled}
-use Rattle.factors.proofs.Scanning.{is-below, is-same, is-above}
 
 -- The scan from `start` has come to `end` with a period, and the entries up to there are written.
 pub record Filling (x before out : List ℕ) (start period end : ℕ) : Type 0 where

@@ -1,5 +1,4 @@
 pub mod Default
-pub mod Compared
 pub mod Duval
 pub mod DuvalSteps
 pub mod DuvalFactorization

@@ -3,7 +3,7 @@
 -- Assumes nothing.
 use mathlib.Core.Path.{_≡_}
 use mathlib.Core.List.{List}
-use Prim.Native.Nat.{ℕ, suc, _+_, _-_, _<_, _≤_}
+use Prim.Native.Nat.{ℕ, suc, _-_, _<_, _≤_}
 use lib.ListN.{length, getD}
 use Rattle.words.specs.Laws.LeftForest.{Uncrossed, FirstCrossing, Nested}
 use Rattle.answer.specs.Limits.{maxLength}

@@ -16,7 +16,7 @@ ghost use Rattle.factors.specs.Answers.{factorizationAnswer};
 // Writes the starts of the factors, one a turn, and returns how many there are.
 fn list_factors(text: &[u8], out: &mut [u32]) -> u32
     requires { ⌜ Room (now text) (now out) ⌝ }
-    ensures { λ r. ⌜ Listed (now (text .entry)) (now (out .entry)) (now (out .exit)) r ⌝ }
+    ensures content { λ r. ⌜ Listed (now (text .entry)) (now (out .entry)) (now (out .exit)) r ⌝ }
 {
     let mut count: usize = 0;
     let mut start: usize = 0;
@@ -32,8 +32,8 @@ fn list_factors(text: &[u8], out: &mut [u32]) -> u32
 
 // Writes the starts of the factors of `text` into `out`; the count is their number.
 pub fn factorization(text: &[u8], out: &mut [u32]) -> Answer
-    ensures { λ r. ⌜ r ≡ factorizationAnswer (now (text .entry)) (length (now (out .entry))) ⌝ }
-    ensures { λ r. ⌜ now (out .exit) ≡ contentAfter r (factorizationOf decided-default (now (text .entry))) (now (out .entry)) ⌝ }
+    ensures answer { λ r. ⌜ r ≡ factorizationAnswer (now (text .entry)) (length (now (out .entry))) ⌝ }
+    ensures content { λ r. ⌜ now (out .exit) ≡ contentAfter r (factorizationOf decided-default (now (text .entry))) (now (out .entry)) ⌝ }
 {
     let n = text.len();
     if n == 0 {

@@ -1,9 +1,9 @@
 // The left forest of a byte text.
 use super::suffix_table::fill_table;
-use super::width::wide;
 use answer::Answer;
 use answer::Reason;
 use answer::limits;
+use letters::wide;
 ghost use mathlib.Core.Path.{_≡_};
 ghost use Prim.Native.Nat.{ℕ, _<_};
 ghost use lib.ListN.{length};
@@ -20,7 +20,7 @@ ghost use Rattle.factors.specs.Links.{Descends, Linked, Closes, Linkable
 // `last` gets its end in PAST.
 fn close(first: &[u32], past: &mut [u32], e: usize, last: usize)
     requires { ⌜ Descends (now first) (now past) e ⌝ }
-    ensures { λ r. ⌜ ((start : ℕ → ℕ) → Linked start (now (first .entry)) e last → Closes start (now (past .entry)) (now (past .exit)) e) ⌝ }
+    ensures content { λ r. ⌜ ((start : ℕ → ℕ) → Linked start (now (first .entry)) e last → Closes start (now (past .entry)) (now (past .exit)) e) ⌝ }
 {
     let mut t = e;
     while last < t {
@@ -33,7 +33,7 @@ fn close(first: &[u32], past: &mut [u32], e: usize, last: usize)
 // further on, and PAST the ends at the positions that a word crosses. Returns the start of the last word.
 fn link(first: &mut [u32], past: &mut [u32], n: usize) -> usize
     requires { ⌜ Linkable (now first) (now past) n ⌝ }
-    ensures { λ r. ⌜ Crossed (now (first .entry)) (now (past .entry)) (now (first .exit)) (now (past .exit)) n r ⌝ }
+    ensures content { λ r. ⌜ Crossed (now (first .entry)) (now (past .entry)) (now (first .exit)) (now (past .exit)) n r ⌝ }
 {
     let mut last: usize = 0;
     let mut e: usize = 0;
@@ -50,8 +50,8 @@ fn link(first: &mut [u32], past: &mut [u32], n: usize) -> usize
 // start of a factor, holds itself in both buffers.
 fn mark_roots(first: &mut [u32], past: &mut [u32], last: usize)
     requires { ⌜ Descends (now first) (now past) last ⌝ }
-    ensures { λ r. ⌜ ((start : ℕ → ℕ) (e : ℕ) → Linked start (now (first .entry)) e last → OwnRoots start (now (first .entry)) (now (first .exit)) e) ⌝ }
-    ensures { λ r. ⌜ ((start : ℕ → ℕ) (e : ℕ) → Linked start (now (first .entry)) e last → OwnRoots start (now (past .entry)) (now (past .exit)) e) ⌝ }
+    ensures starts { λ r. ⌜ ((start : ℕ → ℕ) (e : ℕ) → Linked start (now (first .entry)) e last → OwnRoots start (now (first .entry)) (now (first .exit)) e) ⌝ }
+    ensures ends { λ r. ⌜ ((start : ℕ → ℕ) (e : ℕ) → Linked start (now (first .entry)) e last → OwnRoots start (now (past .entry)) (now (past .exit)) e) ⌝ }
 {
     let mut t = last;
     while 0 < t {
@@ -69,7 +69,7 @@ fn grow(text: &[u8], first: &mut [u32], past: &mut [u32])
     requires { ⌜ 0 < length (now text) ⌝ }
     requires { ⌜ Room (now text) (now first) ⌝ }
     requires { ⌜ Room (now text) (now past) ⌝ }
-    ensures { λ r. ⌜ Grown (now (text .entry)) (now (first .entry)) (now (first .exit)) (now (past .entry)) (now (past .exit)) ⌝ }
+    ensures content { λ r. ⌜ Grown (now (text .entry)) (now (first .entry)) (now (first .exit)) (now (past .entry)) (now (past .exit)) ⌝ }
 {
     fill_table(text, past);
     let last = link(first, past, text.len());
@@ -78,9 +78,9 @@ fn grow(text: &[u8], first: &mut [u32], past: &mut [u32])
 
 // Writes the left forest of `text` into `first` and `past`; the count is the number of letters.
 pub fn left_forest(text: &[u8], first: &mut [u32], past: &mut [u32]) -> Answer
-    ensures { λ r. ⌜ r ≡ leftForestAnswer (now (text .entry)) (length (now (first .entry))) (length (now (past .entry))) ⌝ }
-    ensures { λ r. ⌜ now (first .exit) ≡ contentAfter r (leftFirstOf decided-default (now (text .entry)) (factorizationOf decided-default (now (text .entry)))) (now (first .entry)) ⌝ }
-    ensures { λ r. ⌜ now (past .exit) ≡ contentAfter r (leftPastOf decided-default (now (text .entry)) (factorizationOf decided-default (now (text .entry)))) (now (past .entry)) ⌝ }
+    ensures answer { λ r. ⌜ r ≡ leftForestAnswer (now (text .entry)) (length (now (first .entry))) (length (now (past .entry))) ⌝ }
+    ensures starts { λ r. ⌜ now (first .exit) ≡ contentAfter r (leftFirstOf decided-default (now (text .entry)) (factorizationOf decided-default (now (text .entry)))) (now (first .entry)) ⌝ }
+    ensures ends { λ r. ⌜ now (past .exit) ≡ contentAfter r (leftPastOf decided-default (now (text .entry)) (factorizationOf decided-default (now (text .entry)))) (now (past .entry)) ⌝ }
 {
     let n = text.len();
     if n == 0 {

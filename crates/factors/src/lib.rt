@@ -7,4 +7,3 @@ pub mod left_forest;
 mod order;
 mod scan;
 pub mod suffix_table;
-mod width;

@@ -1,6 +1,6 @@
 // Duval's scan of a byte text, as `specs/Duval.antt` has it step by step.
-use super::order::Comparison;
 use super::order::compare;
+use letters::Comparison;
 ghost use mathlib.Core.Path.{_≡_};
 ghost use Prim.Native.Nat.{_<_, _≤_};
 ghost use lib.ListN.{length};
@@ -17,7 +17,7 @@ pub struct Stretch {
 // The scan from `start` up to a smaller letter or the end of the text.
 pub(crate) fn scan(text: &[u8], start: usize) -> Stretch
     requires { ⌜ start < length (now text) ⌝ }
-    ensures { λ r. ⌜ r ≡ scanOf decided-default 0 (now (text .entry)) start ⌝ }
+    ensures result { λ r. ⌜ r ≡ scanOf decided-default 0 (now (text .entry)) start ⌝ }
 {
     let mut period: usize = 1;
     let mut end = start + 1;
@@ -41,7 +41,7 @@ pub(crate) fn scan(text: &[u8], start: usize) -> Stretch
 pub(crate) fn stretch_at(text: &[u8], start: usize, s: Stretch) -> Stretch
     requires { ⌜ start < length (now text) ⌝ }
     requires { ⌜ s .period ≤ maxLength ⌝ }
-    ensures { λ r. ⌜ r ≡ stretchAt decided-default 0 (now (text .entry)) start s ⌝ }
+    ensures result { λ r. ⌜ r ≡ stretchAt decided-default 0 (now (text .entry)) start s ⌝ }
 {
     if s.end < start + s.period {
         scan(text, start)

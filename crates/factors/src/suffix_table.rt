@@ -1,10 +1,10 @@
 // The Lyndon suffix table of a byte text (document 000's LYNDONSUFFIXTABLE).
-use super::order::Comparison;
 use super::order::compare;
 use super::scan::Stretch;
 use answer::Answer;
 use answer::Reason;
 use answer::limits;
+use letters::Comparison;
 ghost use mathlib.Core.Path.{_≡_};
 ghost use Prim.Native.Nat.{_<_};
 ghost use lib.ListN.{length};
@@ -21,7 +21,7 @@ ghost use Rattle.factors.specs.Answers.{suffixTableAnswer};
 fn fill(text: &[u8], out: &mut [u32], start: usize) -> Stretch
     requires { ⌜ Room (now text) (now out) ⌝ }
     requires { ⌜ Startable (now text) (now out) start ⌝ }
-    ensures { λ r. ⌜ Filled (now (text .entry)) (now (out .entry)) (now (out .exit)) start r ⌝ }
+    ensures content { λ r. ⌜ Filled (now (text .entry)) (now (out .entry)) (now (out .exit)) start r ⌝ }
 {
     let mut period: usize = 1;
     let mut end = start + 1;
@@ -50,7 +50,7 @@ fn fill_at(text: &[u8], out: &mut [u32], start: usize, s: Stretch) -> Stretch
     requires { ⌜ Room (now text) (now out) ⌝ }
     requires { ⌜ Covered (now text) (now out) start s ⌝ }
     requires { ⌜ start < length (now text) ⌝ }
-    ensures { λ r. ⌜ Filled (now (text .entry)) (now (out .entry)) (now (out .exit)) start r ⌝ }
+    ensures content { λ r. ⌜ Filled (now (text .entry)) (now (out .entry)) (now (out .exit)) start r ⌝ }
 {
     if s.end < start + s.period {
         fill(text, out, start)
@@ -62,7 +62,7 @@ fn fill_at(text: &[u8], out: &mut [u32], start: usize, s: Stretch) -> Stretch
 // Writes the whole table, factor by factor.
 pub(crate) fn fill_table(text: &[u8], out: &mut [u32])
     requires { ⌜ Room (now text) (now out) ⌝ }
-    ensures { λ r. ⌜ Tabled (now (text .entry)) (now (out .entry)) (now (out .exit)) (length (now (text .entry))) ⌝ }
+    ensures content { λ r. ⌜ Tabled (now (text .entry)) (now (out .entry)) (now (out .exit)) (length (now (text .entry))) ⌝ }
 {
     let mut start: usize = 0;
     let mut s = Stretch { period: 1, end: 0 };
@@ -74,8 +74,8 @@ pub(crate) fn fill_table(text: &[u8], out: &mut [u32])
 
 // Writes the Lyndon suffix table of `text` into `out`; the count is the number of letters.
 pub fn suffix_table(text: &[u8], out: &mut [u32]) -> Answer
-    ensures { λ r. ⌜ r ≡ suffixTableAnswer (now (text .entry)) (length (now (out .entry))) ⌝ }
-    ensures { λ r. ⌜ now (out .exit) ≡ contentAfter r (suffixTableOf decided-default (now (text .entry))) (now (out .entry)) ⌝ }
+    ensures answer { λ r. ⌜ r ≡ suffixTableAnswer (now (text .entry)) (length (now (out .entry))) ⌝ }
+    ensures content { λ r. ⌜ now (out .exit) ≡ contentAfter r (suffixTableOf decided-default (now (text .entry))) (now (out .entry)) ⌝ }
 {
     let n = text.len();
     if n == 0 {

@@ -37,7 +37,7 @@ pub enum NameByte {
 // What the byte at `at` is in the sequence lines.
 pub(crate) fn kind_at(input: &[u8], at: usize) -> Kind
     requires { ⌜ at < length (now input) ⌝ }
-    ensures { λ r. ⌜ r ≡ kindOf (getD (now (input .entry)) at 0) ⌝ }
+    ensures result { λ r. ⌜ r ≡ kindOf (getD (now (input .entry)) at 0) ⌝ }
 {
     let byte = input[at];
     match byte {
@@ -52,7 +52,7 @@ pub(crate) fn kind_at(input: &[u8], at: usize) -> Kind
 // What the byte at `at` is in a name.
 pub(crate) fn name_byte_at(input: &[u8], at: usize) -> NameByte
     requires { ⌜ at < length (now input) ⌝ }
-    ensures { λ r. ⌜ r ≡ nameByteOf (getD (now (input .entry)) at 0) ⌝ }
+    ensures result { λ r. ⌜ r ≡ nameByteOf (getD (now (input .entry)) at 0) ⌝ }
 {
     let byte = input[at];
     match byte {
@@ -64,7 +64,7 @@ pub(crate) fn name_byte_at(input: &[u8], at: usize) -> NameByte
 
 // Whether `byte` stands at `at`.
 pub(crate) fn stands_at(byte: u8, input: &[u8], at: usize) -> bool
-    ensures { λ r. ⌜ r ≡ startsWith byte (drop at (now (input .entry))) ⌝ }
+    ensures result { λ r. ⌜ r ≡ startsWith byte (drop at (now (input .entry))) ⌝ }
 {
     if at < input.len() {
         input[at] == byte
@@ -75,7 +75,7 @@ pub(crate) fn stands_at(byte: u8, input: &[u8], at: usize) -> bool
 
 // The letter that is handed on for the letter `byte`.
 pub(crate) fn letter_of(byte: u8) -> u8
-    ensures { λ r. ⌜ r ≡ letterOf byte ⌝ }
+    ensures result { λ r. ⌜ r ≡ letterOf byte ⌝ }
 {
     byte
 }

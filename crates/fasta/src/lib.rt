@@ -30,7 +30,7 @@ use answer::refused;
 fn record_ending(input: &[u8], from: usize) -> Ending
     requires { ⌜ from ≤ length (now input) ⌝ }
     requires { ⌜ length (now input) ≤ maxInput ⌝ }
-    ensures { λ r. ⌜ r ≡ recordEnding (now (input .entry)) from ⌝ }
+    ensures result { λ r. ⌜ r ≡ recordEnding (now (input .entry)) from ⌝ }
 {
     if stands_at(HEADER_MARK, input, from) {
         let name = name_from(input, from + 1);
@@ -51,7 +51,7 @@ fn record_ending(input: &[u8], from: usize) -> Ending
 
 // The answer for an input that is one record, by how it ends.
 fn answer_for(ending: Ending) -> Answer
-    ensures { λ r. ⌜ r ≡ answerFor ending ⌝ }
+    ensures answer { λ r. ⌜ r ≡ answerFor ending ⌝ }
 {
     match ending {
         Ending::Stopped { reason, position } => refused(reason, position),
@@ -71,8 +71,8 @@ fn answer_for(ending: Ending) -> Answer
 fn read_record(input: &[u8], letters: &mut [u8]) -> Answer
     requires { ⌜ length (now input) ≤ maxInput ⌝ }
     requires { ⌜ maxLetters ≤ length (now letters) ⌝ }
-    ensures { λ r. ⌜ r ≡ answerFor (recordEnding (now (input .entry)) 0) ⌝ }
-    ensures { λ r. ⌜ now (letters .exit) ≡ contentAfter r (lettersOf (now (input .entry))) (now (letters .entry)) ⌝ }
+    ensures answer { λ r. ⌜ r ≡ answerFor (recordEnding (now (input .entry)) 0) ⌝ }
+    ensures content { λ r. ⌜ now (letters .exit) ≡ contentAfter r (lettersOf (now (input .entry))) (now (letters .entry)) ⌝ }
 {
     let answer = answer_for(record_ending(input, 0));
     let outcome = answer.outcome;
@@ -85,8 +85,8 @@ fn read_record(input: &[u8], letters: &mut [u8]) -> Answer
 
 // Reads the letters of a FASTA input into `letters`. A refusal changes nothing.
 pub fn read(input: &[u8], letters: &mut [u8]) -> Answer
-    ensures { λ r. ⌜ r ≡ readerAnswer (now (input .entry)) (length (now (letters .entry))) ⌝ }
-    ensures { λ r. ⌜ now (letters .exit) ≡ contentAfter r (lettersOf (now (input .entry))) (now (letters .entry)) ⌝ }
+    ensures answer { λ r. ⌜ r ≡ readerAnswer (now (input .entry)) (length (now (letters .entry))) ⌝ }
+    ensures content { λ r. ⌜ now (letters .exit) ≡ contentAfter r (lettersOf (now (input .entry))) (now (letters .entry)) ⌝ }
 {
     if letters.len() < max_letters() {
         return refused(Reason::ShortOutput, 0);

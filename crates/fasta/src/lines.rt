@@ -36,7 +36,7 @@ pub enum Step {
 // Where the line ends whose bytes from `from` on are left: past its LF, or the input's end.
 pub(crate) fn after_line(input: &[u8], from: usize) -> usize
     requires { ⌜ from ≤ length (now input) ⌝ }
-    ensures { λ r. ⌜ r ≡ afterLine from (drop from (now (input .entry))) ⌝ }
+    ensures result { λ r. ⌜ r ≡ afterLine from (drop from (now (input .entry))) ⌝ }
 {
     let mut at = from;
     while at < input.len() {
@@ -50,7 +50,7 @@ pub(crate) fn after_line(input: &[u8], from: usize) -> usize
 
 // What a letter at `position` does after `count` letters.
 fn letter_step(position: u32, count: u32) -> Step
-    ensures { λ r. ⌜ r ≡ letterStep position count ⌝ }
+    ensures result { λ r. ⌜ r ≡ letterStep position count ⌝ }
 {
     if (count as usize) < max_letters() {
         Step::On {
@@ -71,7 +71,7 @@ fn letter_step(position: u32, count: u32) -> Step
 fn step_at(input: &[u8], at: usize, inside: bool, count: u32) -> Step
     requires { ⌜ at < length (now input) ⌝ }
     requires { ⌜ length (now input) ≤ maxInput ⌝ }
-    ensures { λ r. ⌜ r ≡ stepFor (kindOf (getD (now (input .entry)) at 0)) at inside count (drop (at + 1) (now (input .entry))) ⌝ }
+    ensures result { λ r. ⌜ r ≡ stepFor (kindOf (getD (now (input .entry)) at 0)) at inside count (drop (at + 1) (now (input .entry))) ⌝ }
 {
     let kind = kind_at(input, at);
     let position = at as u32;
@@ -112,7 +112,7 @@ fn step_at(input: &[u8], at: usize, inside: bool, count: u32) -> Step
 pub(crate) fn lines_from(input: &[u8], from: usize) -> Ending
     requires { ⌜ from ≤ length (now input) ⌝ }
     requires { ⌜ length (now input) ≤ maxInput ⌝ }
-    ensures { λ r. ⌜ r ≡ linesFrom from false 0 (drop from (now (input .entry))) ⌝ }
+    ensures result { λ r. ⌜ r ≡ linesFrom from false 0 (drop from (now (input .entry))) ⌝ }
 {
     let mut at = from;
     let mut inside = false;
@@ -142,8 +142,8 @@ pub(crate) fn lines_from(input: &[u8], from: usize) -> Ending
 fn keep_letter(input: &[u8], at: usize, letters: &mut [u8], count: usize) -> usize
     requires { ⌜ at < length (now input) ⌝ }
     requires { ⌜ count + length (letterAt (now input) at) ≤ length (now letters) ⌝ }
-    ensures { λ r. ⌜ r ≡ count + length (letterAt (now (input .entry)) at) ⌝ }
-    ensures { λ _. ⌜ now (letters .exit) ≡ sets (now (letters .entry)) count (letterAt (now (input .entry)) at) ⌝ }
+    ensures result { λ r. ⌜ r ≡ count + length (letterAt (now (input .entry)) at) ⌝ }
+    ensures content { λ _. ⌜ now (letters .exit) ≡ sets (now (letters .entry)) count (letterAt (now (input .entry)) at) ⌝ }
 {
     let kind = kind_at(input, at);
     match kind {
@@ -162,7 +162,7 @@ fn keep_letter(input: &[u8], at: usize, letters: &mut [u8], count: usize) -> usi
 pub(crate) fn write_letters(input: &[u8], from: usize, letters: &mut [u8])
     requires { ⌜ from ≤ length (now input) ⌝ }
     requires { ⌜ length (lettersIn (drop from (now input))) ≤ length (now letters) ⌝ }
-    ensures { λ _. ⌜ now (letters .exit) ≡ sets (now (letters .entry)) 0 (lettersIn (drop from (now (input .entry)))) ⌝ }
+    ensures content { λ _. ⌜ now (letters .exit) ≡ sets (now (letters .entry)) 0 (lettersIn (drop from (now (input .entry)))) ⌝ }
 {
     let mut at = from;
     let mut count = 0;

@@ -20,7 +20,7 @@ pub enum Name {
 
 // A name of `count` bytes that is over at `at`.
 fn name_over(at: u32, count: usize) -> Name
-    ensures { λ r. ⌜ r ≡ nameOver at count ⌝ }
+    ensures result { λ r. ⌜ r ≡ nameOver at count ⌝ }
 {
     if count == 0 {
         Name::Misnamed { position: at }
@@ -33,7 +33,7 @@ fn name_over(at: u32, count: usize) -> Name
 pub(crate) fn name_from(input: &[u8], from: usize) -> Name
     requires { ⌜ from ≤ length (now input) ⌝ }
     requires { ⌜ length (now input) ≤ maxInput ⌝ }
-    ensures { λ r. ⌜ r ≡ nameFrom from 0 (drop from (now (input .entry))) ⌝ }
+    ensures result { λ r. ⌜ r ≡ nameFrom from 0 (drop from (now (input .entry))) ⌝ }
 {
     let mut at = from;
     let mut count: usize = 0;
@@ -59,7 +59,7 @@ pub(crate) fn name_from(input: &[u8], from: usize) -> Name
 
 // Where the name ends whose bytes start at `from`: past its last byte.
 pub fn name_end(input: &[u8], from: usize) -> usize
-    ensures { λ r. ⌜ r ≡ from + length (nameIn (drop from (now (input .entry)))) ⌝ }
+    ensures result { λ r. ⌜ r ≡ from + length (nameIn (drop from (now (input .entry)))) ⌝ }
 {
     let mut at = from;
     while at < input.len() {

@@ -13,7 +13,7 @@ ghost use Rattle.from_array.specs.Answers.{arrayChecked};
 // Refusals 6 and 7 in one pass from the left, then refusal 8; accepted where the array is valid.
 pub(crate) fn check(array: &[u32]) -> Answer
     requires { ⌜ length (now array) ≤ maxLength ⌝ }
-    ensures { λ r. ⌜ r ≡ arrayChecked (now (array .entry)) ⌝ }
+    ensures answer { λ r. ⌜ r ≡ arrayChecked (now (array .entry)) ⌝ }
 {
     let n = array.len();
     let bad = first_bad(array);

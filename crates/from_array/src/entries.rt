@@ -8,14 +8,14 @@ ghost use Rattle.from_array.specs.Checked.{FirstBad};
 // Where the span at `i` ends. The sum of a position and an entry is made in 64 bits.
 pub(crate) fn end_of(array: &[u32], i: usize) -> usize
     requires { ⌜ i < length (now array) ⌝ }
-    ensures { λ r. ⌜ r ≡ endOf (now (array .entry)) i ⌝ }
+    ensures result { λ r. ⌜ r ≡ endOf (now (array .entry)) i ⌝ }
 {
     i + (array[i] as usize)
 }
 
 // The first position whose entry is 0 or too long, or the length of the array.
 pub(crate) fn first_bad(array: &[u32]) -> usize
-    ensures { λ r. ⌜ FirstBad (now (array .entry)) r ⌝ }
+    ensures result { λ r. ⌜ FirstBad (now (array .entry)) r ⌝ }
 {
     let mut i = 0;
     while i < array.len() {

@@ -21,7 +21,7 @@ ghost use Rattle.from_array.specs.Written.{Room, Holds};
 fn write_own(first: &mut [u32], n: usize)
     requires { ⌜ n ≤ maxLength ⌝ }
     requires { ⌜ n ≤ length (now first) ⌝ }
-    ensures { λ _. ⌜ Holds (λ j. j) n (now (first .entry)) (now (first .exit)) ⌝ }
+    ensures content { λ _. ⌜ Holds (λ j. j) n (now (first .entry)) (now (first .exit)) ⌝ }
 {
     let mut k = 0;
     while k < n {
@@ -33,7 +33,7 @@ fn write_own(first: &mut [u32], n: usize)
 // FIRST: each position has the one whose span is its innermost, or itself.
 fn write_first(array: &[u32], first: &mut [u32])
     requires { ⌜ Room (now array) (now first) ⌝ }
-    ensures { λ _. ⌜ Holds (firstFor (now (array .entry))) (length (now (array .entry))) (now (first .entry)) (now (first .exit)) ⌝ }
+    ensures content { λ _. ⌜ Holds (firstFor (now (array .entry))) (length (now (array .entry))) (now (first .entry)) (now (first .exit)) ⌝ }
 {
     write_own(first, array.len());
     let mut i = 0;
@@ -48,7 +48,7 @@ fn past_at(array: &[u32], first: u32, j: usize) -> u32
     requires { ⌜ Valid (now array) ⌝ }
     requires { ⌜ (length (now array) ≤ maxLength) × (j < length (now array)) ⌝ }
     requires { ⌜ first ≡ firstFor (now array) j ⌝ }
-    ensures { λ r. ⌜ r ≡ pastFor (now (array .entry)) j ⌝ }
+    ensures result { λ r. ⌜ r ≡ pastFor (now (array .entry)) j ⌝ }
 {
     let own = j as u32;
     if first == own {
@@ -62,7 +62,7 @@ fn write_past(array: &[u32], first: &[u32], past: &mut [u32])
     requires { ⌜ Room (now array) (now past) ⌝ }
     requires { ⌜ length (now array) ≤ length (now first) ⌝ }
     requires { ⌜ ((j : ℕ) → j < length (now array) → getD (now first) j 0 ≡ firstFor (now array) j) ⌝ }
-    ensures { λ _. ⌜ Holds (pastFor (now (array .entry))) (length (now (array .entry))) (now (past .entry)) (now (past .exit)) ⌝ }
+    ensures content { λ _. ⌜ Holds (pastFor (now (array .entry))) (length (now (array .entry))) (now (past .entry)) (now (past .exit)) ⌝ }
 {
     let mut j = 0;
     while j < array.len() {
@@ -74,9 +74,9 @@ fn write_past(array: &[u32], first: &[u32], past: &mut [u32])
 // Writes FIRST and PAST of the right forest of every text that has `array`; the count is the number
 // of entries.
 pub fn right_forest(array: &[u32], first: &mut [u32], past: &mut [u32]) -> Answer
-    ensures { λ r. ⌜ r ≡ rightForestAnswer (now (array .entry)) (length (now (first .entry))) (length (now (past .entry))) ⌝ }
-    ensures { λ r. ⌜ now (first .exit) ≡ contentAfter r (forestFirst (now (array .entry))) (now (first .entry)) ⌝ }
-    ensures { λ r. ⌜ now (past .exit) ≡ contentAfter r (forestPast (now (array .entry))) (now (past .entry)) ⌝ }
+    ensures answer { λ r. ⌜ r ≡ rightForestAnswer (now (array .entry)) (length (now (first .entry))) (length (now (past .entry))) ⌝ }
+    ensures starts { λ r. ⌜ now (first .exit) ≡ contentAfter r (forestFirst (now (array .entry))) (now (first .entry)) ⌝ }
+    ensures ends { λ r. ⌜ now (past .exit) ≡ contentAfter r (forestPast (now (array .entry))) (now (past .entry)) ⌝ }
 {
     let n = array.len();
     if n == 0 {

@@ -10,7 +10,7 @@ ghost use Rattle.from_array.specs.Written.{Room, Marked};
 pub(crate) fn mark(array: &[u32], out: &mut [u32], i: usize, value: u32)
     requires { ⌜ Room (now array) (now out) ⌝ }
     requires { ⌜ i < length (now array) ⌝ }
-    ensures { λ _. ⌜ Marked (now (array .entry)) i value (now (out .entry)) (now (out .exit)) ⌝ }
+    ensures content { λ _. ⌜ Marked (now (array .entry)) i value (now (out .entry)) (now (out .exit)) ⌝ }
 {
     let end = end_of(array, i);
     let mut k = i + 1;

@@ -9,7 +9,7 @@ ghost use Rattle.from_array.specs.Checked.{EntriesInRange, CrossingFrom,
 fn crossing_from(array: &[u32], i: usize) -> usize
     requires { ⌜ EntriesInRange (now array) ⌝ }
     requires { ⌜ i < length (now array) ⌝ }
-    ensures { λ r. ⌜ CrossingFrom (now (array .entry)) i r ⌝ }
+    ensures result { λ r. ⌜ CrossingFrom (now (array .entry)) i r ⌝ }
 {
     let end = end_of(array, i);
     let mut k = i + 1;
@@ -27,7 +27,7 @@ fn crossing_from(array: &[u32], i: usize) -> usize
 // crossing found so far on are not walked from, so no position is met twice.
 pub(crate) fn least_crossing(array: &[u32]) -> usize
     requires { ⌜ EntriesInRange (now array) ⌝ }
-    ensures { λ r. ⌜ LeastCrossing (now (array .entry)) r ⌝ }
+    ensures result { λ r. ⌜ LeastCrossing (now (array .entry)) r ⌝ }
 {
     let mut least = array.len();
     let mut i = 0;

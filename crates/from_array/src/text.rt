@@ -18,7 +18,7 @@ ghost use Rattle.from_array.specs.Written.{Room, Holds};
 // Every position has 0: no span is counted yet.
 fn write_zeros(text: &mut [u32], n: usize)
     requires { ⌜ n ≤ length (now text) ⌝ }
-    ensures { λ _. ⌜ Holds (λ j. 0) n (now (text .entry)) (now (text .exit)) ⌝ }
+    ensures content { λ _. ⌜ Holds (λ j. 0) n (now (text .entry)) (now (text .exit)) ⌝ }
 {
     let mut j = 0;
     while j < n {
@@ -31,7 +31,7 @@ fn write_zeros(text: &mut [u32], n: usize)
 // span holds it, once the innermost of them had its turn.
 fn write_letters(array: &[u32], text: &mut [u32])
     requires { ⌜ Room (now array) (now text) ⌝ }
-    ensures { λ _. ⌜ Holds (letterFor (now (array .entry))) (length (now (array .entry))) (now (text .entry)) (now (text .exit)) ⌝ }
+    ensures content { λ _. ⌜ Holds (letterFor (now (array .entry))) (length (now (array .entry))) (now (text .entry)) (now (text .exit)) ⌝ }
 {
     let n = array.len();
     write_zeros(text, n);
@@ -47,8 +47,8 @@ fn write_letters(array: &[u32], text: &mut [u32])
 
 // Writes the text that has `array`; the count is the number of its letters.
 pub fn reconstruct(array: &[u32], text: &mut [u32]) -> Answer
-    ensures { λ r. ⌜ r ≡ reconstructAnswer (now (array .entry)) (length (now (text .entry))) ⌝ }
-    ensures { λ r. ⌜ now (text .exit) ≡ contentAfter r (textFor (now (array .entry))) (now (text .entry)) ⌝ }
+    ensures answer { λ r. ⌜ r ≡ reconstructAnswer (now (array .entry)) (length (now (text .entry))) ⌝ }
+    ensures content { λ r. ⌜ now (text .exit) ≡ contentAfter r (textFor (now (array .entry))) (now (text .entry)) ⌝ }
 {
     let n = array.len();
     if n == 0 {

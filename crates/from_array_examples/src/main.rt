@@ -14,7 +14,7 @@ ghost use Rattle.from_array.specs.Answers.{reconstructAnswer, rightForestAnswer
 
 // Whether both hold the same numbers.
 fn same(a: &[u32], b: &[u32]) -> bool
-    ensures { λ r. ⌜ (r ≡ true) ↔ (now (a .entry) ≡ now (b .entry)) ⌝ }
+    ensures result { λ r. ⌜ (r ≡ true) ↔ (now (a .entry) ≡ now (b .entry)) ⌝ }
 {
     if a.len() != b.len() {
         return false;

@@ -16,7 +16,7 @@ const TAB: u8 = 9;
 // Writes a tab and a number.
 fn write_number(n: usize, out: &mut [u8], at: usize) -> usize
     requires { ⌜ at + length (numberField n) ≤ length (now out) ⌝ }
-    ensures { λ r. ⌜ Written (now (out .entry)) (now (out .exit)) at r (numberField n) ⌝ }
+    ensures content { λ r. ⌜ Written (now (out .entry)) (now (out .exit)) at r (numberField n) ⌝ }
 {
     let next = write_byte(TAB, out, at);
     write_decimal(n, out, next)
@@ -25,7 +25,7 @@ fn write_number(n: usize, out: &mut [u8], at: usize) -> usize
 // Writes a tab and the name of a repeat.
 fn write_repeat(period: usize, out: &mut [u8], at: usize) -> usize
     requires { ⌜ at + length (repeatField period) ≤ length (now out) ⌝ }
-    ensures { λ r. ⌜ Written (now (out .entry)) (now (out .exit)) at r (repeatField period) ⌝ }
+    ensures content { λ r. ⌜ Written (now (out .entry)) (now (out .exit)) at r (repeatField period) ⌝ }
 {
     let next = write_bytes(b"\tp", out, at);
     write_decimal(period, out, next)
@@ -34,7 +34,7 @@ fn write_repeat(period: usize, out: &mut [u8], at: usize) -> usize
 // Writes the line of the run with this start, last position and period.
 fn write_line(name: &[u8], start: u32, last: u32, period: u32, out: &mut [u8], at: usize) -> usize
     requires { ⌜ at + length (bedLine (now name) (entryWith start last period)) ≤ length (now out) ⌝ }
-    ensures { λ r. ⌜ Written (now (out .entry)) (now (out .exit)) at r (bedLine (now (name .entry)) (entryWith start last period)) ⌝ }
+    ensures content { λ r. ⌜ Written (now (out .entry)) (now (out .exit)) at r (bedLine (now (name .entry)) (entryWith start last period)) ⌝ }
 {
     let past_name = write_bytes(name, out, at);
     let past_start = write_number(start as usize, out, past_name);
@@ -54,8 +54,8 @@ pub(crate) fn write_lines(
     requires { ⌜ length (now name) ≤ maxName ⌝ }
     requires { ⌜ 3 * count ≤ length (now runs) ⌝ }
     requires { ⌜ at + maxLine * count ≤ length (now out) ⌝ }
-    ensures { λ r. ⌜ Written (now (out .entry)) (now (out .exit)) at r (bedLines (now (name .entry)) (entriesOf count (now (runs .entry)))) ⌝ }
-    ensures { λ r. ⌜ r ≤ length (now (out .entry)) ⌝ }
+    ensures content { λ r. ⌜ Written (now (out .entry)) (now (out .exit)) at r (bedLines (now (name .entry)) (entriesOf count (now (runs .entry)))) ⌝ }
+    ensures within { λ r. ⌜ r ≤ length (now (out .entry)) ⌝ }
 {
     let mut from = 0;
     let mut left = count;

@@ -9,7 +9,7 @@ ghost use Rattle.listing.specs.Written.{Written};
 // Writes one byte.
 pub(crate) fn write_byte(byte: u8, out: &mut [u8], at: usize) -> usize
     requires { ⌜ at < length (now out) ⌝ }
-    ensures { λ r. ⌜ Written (now (out .entry)) (now (out .exit)) at r (byte ∷ []) ⌝ }
+    ensures content { λ r. ⌜ Written (now (out .entry)) (now (out .exit)) at r (byte ∷ []) ⌝ }
 {
     out[at] = byte;
     at + 1
@@ -18,7 +18,7 @@ pub(crate) fn write_byte(byte: u8, out: &mut [u8], at: usize) -> usize
 // Writes the bytes of `part`.
 pub(crate) fn write_bytes(part: &[u8], out: &mut [u8], at: usize) -> usize
     requires { ⌜ at + length (now part) ≤ length (now out) ⌝ }
-    ensures { λ r. ⌜ Written (now (out .entry)) (now (out .exit)) at r (now (part .entry)) ⌝ }
+    ensures content { λ r. ⌜ Written (now (out .entry)) (now (out .exit)) at r (now (part .entry)) ⌝ }
 {
     let mut i = 0;
     let mut next = at;
@@ -33,7 +33,7 @@ pub(crate) fn write_bytes(part: &[u8], out: &mut [u8], at: usize) -> usize
 // Writes n in decimal.
 pub(crate) fn write_decimal(n: usize, out: &mut [u8], at: usize) -> usize
     requires { ⌜ at + length (decimalOf n) ≤ length (now out) ⌝ }
-    ensures { λ r. ⌜ Written (now (out .entry)) (now (out .exit)) at r (decimalOf n) ⌝ }
+    ensures content { λ r. ⌜ Written (now (out .entry)) (now (out .exit)) at r (decimalOf n) ⌝ }
 {
     if n < 10 {
         out[at] = 48 + n as u8;

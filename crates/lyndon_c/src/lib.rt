@@ -27,7 +27,7 @@ pub struct LyndonAnswer {
 }
 
 fn exported(a: Answer) -> LyndonAnswer
-    ensures { λ r. ⌜ r ≡ recordOf a ⌝ }
+    ensures answer { λ r. ⌜ r ≡ recordOf a ⌝ }
 {
     LyndonAnswer {
         number: answer::number(a),

@@ -2,11 +2,15 @@
 -- Assumes nothing.
 use mathlib.Core.Path.{_≡_}
 use mathlib.Core.List.{List}
-use Prim.Native.Nat.{ℕ, _+_, _<_, _≤_}
+use Prim.Native.Nat.{ℕ, _<_, _≤_}
 use lib.ListN.{length, getD}
-use Rattle.words.specs.Laws.SpanLyndon.{letters}
-use Rattle.array.specs.Core.State.{entryOf, RowsOf}
-use Rattle.array.specs.Core.Joining.{Restoring}
+use Rattle.answer.specs.Limits.{maxLength}
+use Rattle.array.specs.Core.Rows.{entryOf, RowsOf}
+
+-- A text that is not too long, with a buffer for its array.
+pub record TextFits (x buf : List ℕ) : Type 0 where
+  pub fits : length x ≤ length buf
+  pub small : length x ≤ maxLength
 
 -- The places from n on keep their content.
 pub record KeptFrom (before after : List ℕ) (n : ℕ) : Type 0 where
@@ -25,12 +29,6 @@ pub record HasRows (buf : List ℕ) (n : ℕ) : Type 0 where
   pub size : length text ≡ n
   pub inside : n ≤ length buf
   pub rows : RowsOf order text buf 0
-
--- The last places below j have their entries back, for every text whose rows the buffer held.
-pub record RestoredBelow (before after : List ℕ) (n j : ℕ) : Type 0 where
-  pub others : KeptFrom before after n
-  pub restoring : (order : ℕ) (x : List ℕ) → length x ≡ n → RowsOf order x before 0 →
-      Restoring (letters 0 x) (length x) (entryOf order x) (letters 0 after) j
 
 -- All entries are final, for every text whose rows the buffer held.
 pub record AllRestored (before after : List ℕ) (n : ℕ) : Type 0 where

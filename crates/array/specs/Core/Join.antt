@@ -1,18 +1,19 @@
--- What the join loop hands back.
+-- What the join loop asks for and hands back.
 -- Assumes nothing.
 use mathlib.Core.Path.{_≡_}
 use mathlib.Core.List.{List}
-use Prim.Native.Nat.{ℕ, zero, suc, _+_, _-_, _<_, _≤_}
+use Prim.Native.Nat.{ℕ, _+_, _<_, _≤_}
 use lib.ListN.{length, getD}
-use Rattle.words.specs.Letters.{Letters, orderOf}
+use Rattle.words.specs.Laws.Position.{Agree}
 use Rattle.words.specs.Laws.SpanLyndon.{letters}
-use Rattle.words.specs.Laws.Position.{Agree, SpanLess}
 use Rattle.words.specs.Laws.SuffixOrder.{NextSmaller}
-use Rattle.array.specs.Core.State.{entryOf}
-use Rattle.array.specs.Core.Joining.{Joining}
+use Rattle.words.specs.Letters.{orderOf}
+use Rattle.answer.specs.Limits.{maxLength}
+use Rattle.letters.specs.declared.Comparison.{Comparison}
+use Rattle.letters.specs.declared.Comparison.the-variants.{Below, Same, Above}
 use Rattle.array.specs.declared.joined.Joined.{Joined}
-use Rattle.array.specs.declared.joined.Comparison.{Comparison}
-use Rattle.array.specs.declared.joined.Comparison.the-variants.{Below, Same, Above}
+use Rattle.array.specs.Core.Joining.{Joining}
+use Rattle.array.specs.Core.Rows.{entryOf, RowsOf}
 
 -- The word from i to j, and the factor of length l at j, are equal.
 abbrev pub SameWord : List ℕ → ℕ → ℕ → ℕ → Type 0
@@ -26,6 +27,13 @@ Stopped order x i j k Above =
     j < length x →
     (¬ SameWord x i j (entryOf order x j)) × (k < entryOf order x j → ¬ (letters 0 x (i + k) ≡ letters 0 x (j + k)))
 
+-- What joining at position i asks for: the factors after it are in the buffer.
+pub record JoinReady (order : ℕ) (x buf : List ℕ) (i : ℕ) : Type 0 where
+  pub inside : i < length x
+  pub fits : length x ≤ length buf
+  pub small : length x ≤ maxLength
+  pub rows : RowsOf order x buf (i + 1)
+
 -- Only places after i and below n have changed.
 pub record ChangedAfter (before after : List ℕ) (i n : ℕ) : Type 0 where
   pub size : length after ≡ length before
@@ -38,21 +46,7 @@ pub record JoinedTo (order : ℕ) (x before after : List ℕ) (i : ℕ) (r : Joi
   pub next : NextSmaller (orderOf order) (letters 0 x) (length x) i (r .end)
   pub stopped : Stopped order x i (r .end) (r .agreed) (r .stop)
 
--- The state of the join loop of position i: the buffer at the start, the buffer now, and how far it has come.
-pub record JoinLoop (order : ℕ) (x before buf : List ℕ) (i j k g : ℕ) : Type 0 where
-  pub changed : ChangedAfter before buf i (length x)
-  pub joining : Joining (orderOf order) (letters 0 x) (length x) (entryOf order x) (letters 0 buf) i j k g
-
 -- The suffixes at i and at j agree on k letters.
 pub record Agreeing (x : List ℕ) (i j k : ℕ) : Type 0 where
   pub agree : Agree (letters 0 x) i j k
   pub within : j + k ≤ length x
-
--- What the comparison of the word from i to j with the factor at j says, and how far they agree.
-abbrev pub Compared : ℕ → List ℕ → ℕ → ℕ → ℕ → Comparison → Type 0
-Compared order x i j k Below =
-    Agreeing x i j k × SpanLess (orderOf order) (letters 0 x) i j j (j + entryOf order x j)
-Compared order x i j k Same =
-    Agreeing x i j k × NextSmaller (orderOf order) (letters 0 x) (length x) i j × Stopped order x i j k Same
-Compared order x i j k Above =
-    Agreeing x i j k × NextSmaller (orderOf order) (letters 0 x) (length x) i j × Stopped order x i j k Above

@@ -2,59 +2,21 @@
 -- Assumes nothing.
 use mathlib.Core.Path.{_≡_}
 use mathlib.Core.List.{List, [], _∷_}
-use Prim.Native.Nat.{ℕ, suc, _+_, _-_, _*_, _<_, _≤_}
-use lib.ListN.{length, getD, set}
-use Rattle.words.specs.Letters.{orderOf}
-use Rattle.words.specs.Runs.{Entry}
-use Rattle.words.specs.Laws.SpanLyndon.{letters}
-use Rattle.words.specs.Laws.Position.{Agree}
-use Rattle.words.specs.Laws.SuffixOrder.{NextSmaller}
-use Rattle.words.specs.Laws.RunMarks.{ListedEntry, endBound}
-use Rattle.words.specs.Laws.EachRunOnce.{ListsDown}
-use Rattle.words.specs.Decided.{decided-order}
+use Prim.Native.Nat.{ℕ, suc, _+_, _≤_, _*_}
+use lib.ListN.{length}
 use Rattle.words.specs.Compute.LyndonArray.{arrayOf}
+use Rattle.words.specs.Laws.EachRunOnce.{ListsDown}
+use Rattle.words.specs.Laws.RunMarks.{ListedEntry, endBound}
+use Rattle.words.specs.Laws.SpanLyndon.{letters}
+use Rattle.words.specs.Letters.{orderOf}
+use Rattle.words.specs.Decided.{decided-order}
+use Rattle.words.specs.Runs.{Entry}
 use Rattle.answer.specs.Checks.{written}
 use Rattle.sorting.specs.Exchange.{put}
 use Rattle.array.specs.Calls.{runList, runNumbers, bothArrays}
-use Rattle.array.specs.Core.State.{entryOf, RowsOf}
-use Rattle.array.specs.Core.Join.{Stopped, Agreeing}
 use Rattle.array.specs.Core.Fill.{KeptFrom, Filled}
-use Rattle.array.specs.declared.joined.Comparison.{Comparison}
-use Rattle.array.specs.declared.joined.Comparison.the-variants.{Below, Same, Above}
-
--- The join loop of i has stopped at j after k letters.
-pub record StoppedAt (x buf : List ℕ) (i j k : ℕ) (stop : Comparison) : Type 0 where
-  pub order : ℕ
-  pub after : i < j
-  pub inside : j ≤ length x
-  pub fits : length x ≤ length buf
-  pub own : j < length x → getD buf j 0 ≡ entryOf order x j
-  pub agreeing : j < length x → Agreeing x i j k
-  pub stopped : Stopped order x i j k stop
-
--- The suffixes at i and j agree on k letters and no more.
-pub record Exact (x : List ℕ) (i j k : ℕ) : Type 0 where
-  pub agree : Agree (letters 0 x) i j k
-  pub within : j + k ≤ length x
-  pub stops : j + k < length x → ¬ (letters 0 x (i + k) ≡ letters 0 x (j + k))
-
--- How far they agree, by the comparison that stopped the joining.
-abbrev pub ExtendedTo : List ℕ → ℕ → ℕ → ℕ → Comparison → Type 0
-ExtendedTo x i j k Below = Unit {0}
-ExtendedTo x i j k Same = Agreeing x i j k
-ExtendedTo x i j k Above = Exact x i j k
-
--- The letters from s up to i continue period p to the left, and none before them does.
-pub record LeftExtent (x : List ℕ) (i p s : ℕ) : Type 0 where
-  pub low : s ≤ i
-  pub left : (t : ℕ) → s ≤ t → t < i → letters 0 x t ≡ letters 0 x (t + p)
-  pub left-stops : (t : ℕ) → s ≡ suc t → ¬ (letters 0 x t ≡ letters 0 x (t + p))
-
--- The next smaller suffix after i is at j, the two agree on k letters and no more, and k is less than their distance.
-pub record AtRoot (order : ℕ) (x : List ℕ) (i j k : ℕ) : Type 0 where
-  pub next : NextSmaller (orderOf order) (letters 0 x) (length x) i j
-  pub exact : Exact x i j k
-  pub short : i + k < j
+use Rattle.array.specs.Core.Join.{JoinReady}
+use Rattle.array.specs.Core.Rows.{RowsOf}
 
 -- The list with rs as its entries from k on.
 abbrev pub putAll : List ℕ → ℕ → List Entry → List ℕ
@@ -67,6 +29,11 @@ pub data Listed (order : ℕ) (x before after : List ℕ) (i count r : ℕ) : Ty
       Listed order x before after i count r
   listed : (e : Entry) → ListedEntry (orderOf order) (letters 0 x) (length x) (endBound order (length x)) i e → r ≡ count + 1 →
       after ≡ put before count e → Listed order x before after i count r
+
+-- What visiting position i asks for: joining, and room for one entry more.
+pub record VisitReady (order : ℕ) (x buf list : List ℕ) (count i : ℕ) : Type 0 where
+  pub join : JoinReady order x buf i
+  pub room : 3 * count + 3 ≤ length list
 
 -- Position i has been visited.
 pub record Visited (order : ℕ) (x before after list list′ : List ℕ) (i count r : ℕ) : Type 0 where

@@ -1,10 +1,9 @@
 -- `array::agreement::common_prefix` meets its contract: the letters below k agree.
 -- Assumes nothing.
 use borrow.Author.Needs.{needs}
-use native.Mathlib.Omega.{arith}
 use Prim.Native.Nat.{_-_}
 use lib.ListN.{length}
-use Rattle.array.specs.CommonPrefix.{AlikeBelow, alike-none, alike-more, alike-is}
+use Rattle.array.proofs.CommonPrefixLaws.{AlikeBelow, alike-none, alike-more, alike-differs, alike-left-ends, alike-right-ends}
 use Rattle.array.proofs.agreement.common_prefix.Statement.{statement}
 use Rattle.array.proofs.agreement.common_prefix.Tie as tie
 
@@ -24,7 +23,7 @@ shared-slice-read-if2-2 : tie.Need-shared-slice-read-if2-2 Inv-loop μ-loop
 shared-slice-read-if2-2 c = search needs
 
 returns : tie.Need-returns Inv-loop μ-loop
-returns c = alike-is _ _ _ (c .before .before .before .before .before .loop .inv) (λ p q. c .if2 .taken)
+returns c = search alike-differs
 
 add-k : tie.Need-add-k Inv-loop μ-loop
 add-k c = search needs
@@ -33,13 +32,13 @@ loop-less : tie.Need-loop-less Inv-loop μ-loop
 loop-less c = search needs
 
 loop-again : tie.Need-loop-again Inv-loop μ-loop
-loop-again c = alike-more _ _ _ (c .before .before .before .before .before .loop .inv) (c .before .before .before .before .loop-test .taken) (c .before .before .before .if1 .taken) (c .if2 .left)
+loop-again c = search alike-more
 
 returns-2 : tie.Need-returns-2 Inv-loop μ-loop
-returns-2 c = alike-is _ _ _ (c .before .before .loop .inv) (λ p q. absurd (omega (arith, q, c .if1 .left)))
+returns-2 c = search alike-right-ends
 
 returns-3 : tie.Need-returns-3 Inv-loop μ-loop
-returns-3 c = alike-is _ _ _ (c .before .loop .inv) (λ p q. absurd (omega (arith, p, c .loop-test .left)))
+returns-3 c = search alike-left-ends
 
 pub common-prefix-spec : {M : Type 1} → statement M
 common-prefix-spec =

@@ -2,59 +2,85 @@
 -- Assumes nothing.
 use borrow.Author.Needs.{needs}
 use native.Mathlib.Omega.{arith}
-use mathlib.Core.Path.{_≡_, sym, subst, _∙_}
-use mathlib.Core.Logic.{_⊎_, inl, inr, ⊎-elim}
-use Prim.Native.Nat.{ℕ, _+_, _-_, _<_, _≤_}
-use lib.ListN.{length, getD}
-use Rattle.words.specs.Laws.SpanLyndon.{letters}
-use Rattle.words.specs.Laws.Position.{Agree}
-use Rattle.array.specs.Core.State.{entryOf, entry-next}
-use Rattle.array.specs.Core.Join.{JoinLoop, Agreeing, Compared}
-use Rattle.array.specs.declared.joined.Comparison.{Comparison}
-use Rattle.array.proofs.JoinLaws.{Comparing, comparing, factor-fits, ended-same, ended-above, past-below, letter-below, letter-above, agree-more, word-below, leap-below, join-start, join-step, joined-same, joined-above, joined-end}
+use mathlib.Core.Logic.{⊎-elim}
+use Prim.Native.Nat.{_+_, _-_}
+use lib.ListN.{length}
+use Rattle.array.specs.Core.Join.{Agreeing}
+use Rattle.array.proofs.Comparing.{JoinLoop, Comparing, comparing, factor-fits, agreeing-start}
+use Rattle.array.proofs.ComparisonEnds.{Compared, agree-more, ended-same, ended-above, past-below, letter-below, letter-above}
+use Rattle.array.proofs.ComparisonEnds.{word-below, leap-below}
+use Rattle.array.proofs.JoinSteps.{join-start, join-step, joined-same, joined-above, joined-end}
 use Rattle.array.proofs.bytes.join.Statement.{statement}
 use Rattle.array.proofs.bytes.join.Tie as tie
 
 abbrev Inv-loop2 : tie.InvT-loop2
-Inv-loop2 text order buf i n j k₀ g l d s k = Agreeing text i j k
+Inv-loop2 text order buf i n j k₀ part factor word known k = Agreeing text i j k
 
 abbrev μ-loop2 : tie.MeasureT-loop2
-μ-loop2 text order buf i n j k₀ g l d s k = l - k
+μ-loop2 text order buf i n j k₀ part factor word known k = factor - k
 
 abbrev Inv-loop : tie.InvT-loop
-Inv-loop text order buf₀ i n j₀ k₀ g₀ buf j k g = JoinLoop order text buf₀ buf i j k g
+Inv-loop text order buf₀ i n j₀ k₀ part₀ buf j k part = JoinLoop order text buf₀ buf i j k part
 
 abbrev μ-loop : tie.MeasureT-loop
-μ-loop text order buf₀ i n j₀ k₀ g₀ buf j k g = length text - j
+μ-loop text order buf₀ i n j₀ k₀ part₀ buf j k part = length text - j
+
+-- The moments that facts are told at, each found from a later one: the call, the head of the outer loop, the beginning of the
+-- comparison, a turn of it inside the factor, one in which the letters agreed, and the end of the comparison.
+abbrev call : tie.At-loop Inv-loop2 μ-loop2 Inv-loop μ-loop → tie.Start Inv-loop2 μ-loop2 Inv-loop μ-loop
+call c = c .before .before .before
+
+abbrev head : tie.After-remembered Inv-loop2 μ-loop2 Inv-loop μ-loop → tie.At-loop Inv-loop2 μ-loop2 Inv-loop μ-loop
+head c = c .before .before .before .before .before
+
+abbrev begun : tie.Else1 Inv-loop2 μ-loop2 Inv-loop μ-loop → tie.After-remembered Inv-loop2 μ-loop2 Inv-loop μ-loop
+begun c = c .before .before
+
+abbrev turn : tie.Else3 Inv-loop2 μ-loop2 Inv-loop μ-loop → tie.Else1 Inv-loop2 μ-loop2 Inv-loop μ-loop
+turn c = c .before .before .before .before .before
+
+abbrev agreed : tie.Else8 Inv-loop2 μ-loop2 Inv-loop μ-loop → tie.Else3 Inv-loop2 μ-loop2 Inv-loop μ-loop
+agreed c = c .before .before .before
+
+abbrev began : tie.Joined1 Inv-loop2 μ-loop2 Inv-loop μ-loop → tie.After-remembered Inv-loop2 μ-loop2 Inv-loop μ-loop
+began c = c .before .before
+
+abbrev ended : tie.Joined10 Inv-loop2 μ-loop2 Inv-loop μ-loop → tie.Joined1 Inv-loop2 μ-loop2 Inv-loop μ-loop
+ended c = c .before .before .before .before .before .before .before
 
 -- What is known where the comparison begins.
-at-comparison : (c : tie.After-remembered Inv-loop2 μ-loop2 Inv-loop μ-loop) →
-    Comparing (c .before .before .before .before .before .before .before .before .args .order)
-    (c .before .before .before .before .before .before .before .before .args .text .now)
-    (c .before .before .before .before .before .before .before .before .args .buf .now)
-    (c .before .before .before .before .before .loop .buf) (c .before .before .before .before .before .before .before .before .args .i)
-    (c .before .before .before .before .before .loop .j) (c .before .before .before .before .before .loop .k)
-    (c .before .before .before .before .before .loop .g) (c .before .before .wide .result) (c .remembered .result)
-at-comparison c = comparing _ _ _ _ _ _ _ _ _ _ (c .before .before .before .before .before .loop .inv) (c .before .before .before .before .loop-test .taken) (c .before .before .before .before .before .before .before .before .pre .1) (c .before .before .before .before .before .before .before .before .pre .2) (c .before .before .wide .ensures) (c .remembered .ensures)
+facts : (c : tie.After-remembered Inv-loop2 μ-loop2 Inv-loop μ-loop) →
+    Comparing (call (head c) .args .order) (call (head c) .args .text .now) (call (head c) .args .buf .now) (head c .loop .buf)
+    (call (head c) .args .i) (head c .loop .j) (head c .loop .k) (head c .loop .part) (c .before .before .wide .result) (c .remembered .result)
+facts c = search comparing
+
+-- One letter more agrees.
+more : (c : tie.Else3 Inv-loop2 μ-loop2 Inv-loop μ-loop) →
+    Agreeing (call (head (begun (turn c))) .args .text .now) (call (head (begun (turn c))) .args .i) (head (begun (turn c)) .loop .j)
+    (turn c .before .loop2 .k + 1)
+more c =
+    agree-more (facts (begun (turn c))) (turn c .before .loop2 .inv) (c .before .before .before .letter .ensures)
+    (c .before .letter2 .ensures) (turn c .if1 .left) (c .if3 .left)
 
 -- What the comparison says: each way out of it, by the tests on that way.
 told : (c : tie.Joined1 Inv-loop2 μ-loop2 Inv-loop μ-loop) →
-    Compared (c .before .before .before .before .before .before .before .before .before .before .args .order) (c .before .before .before .before .before .before .before .before .before .before .args .text .now) (c .before .before .before .before .before .before .before .before .before .before .args .i) (c .before .before .before .before .before .before .before .loop .j) (c .if1 .k) (c .if1 .c)
+    Compared (call (head (began c)) .args .order) (call (head (began c)) .args .text .now) (call (head (began c)) .args .i)
+    (head (began c) .loop .j) (c .if1 .k) (c .if1 .outcome)
 told c =
-    ⊎-elim (λ r. simp (r .2, r .3) (ended-same _ _ _ _ _ _ _ _ _ _ (at-comparison (c .before .before)) _ (c .before .loop2 .inv) (r .0 .taken) (r .1 .taken)))
-    (⊎-elim (λ r. simp (r .2, r .3) (ended-above _ _ _ _ _ _ _ _ _ _ (at-comparison (c .before .before)) _ (c .before .loop2 .inv) (r .0 .taken) (r .1 .left)))
-    (⊎-elim (λ r. simp (r .5, r .6) (past-below _ _ _ _ _ _ _ _ _ _ (at-comparison (c .before .before)) _ (c .before .loop2 .inv) (r .0 .left) (r .4 .taken)))
-    (⊎-elim (λ r. simp (r .7, r .8) (letter-below _ _ _ _ _ _ _ _ _ _ (at-comparison (c .before .before)) _ (c .before .loop2 .inv) (r .0 .left) (r .4 .left) (r .3 .taken) (sym (r .5 .ensures) ∙ r .6 .taken)))
-    (⊎-elim (λ r. simp (r .7, r .8) (letter-above _ _ _ _ _ _ _ _ _ _ (at-comparison (c .before .before)) _ (c .before .loop2 .inv) (r .0 .left) (r .4 .left) (r .3 .taken) (sym (r .5 .ensures) ∙ r .6 .left)))
-    (⊎-elim (λ r. simp (r .7, r .8) (word-below _ _ _ _ _ _ _ _ _ _ (at-comparison (c .before .before)) _ (agree-more _ _ _ _ _ _ _ _ _ _ (at-comparison (c .before .before)) _ (c .before .loop2 .inv) (r .0 .left) (r .3 .left)) (r .4 .taken) (r .5 .taken)))
-    (λ r. simp (r .10, r .11) (leap-below _ _ _ _ _ _ _ _ _ _ (at-comparison (c .before .before)) _ (agree-more _ _ _ _ _ _ _ _ _ _ (at-comparison (c .before .before)) _ (c .before .loop2 .inv) (r .0 .left) (r .3 .left)) (r .4 .taken) (r .5 .taken) (r .6 .left) (rw (r .8 .ensures) at (r .9 .taken)))))))))
+    let w = facts (began c) in
+    let g = c .before .loop2 .inv in
+    ⊎-elim (λ r. search (ended-same w g))
+    (⊎-elim (λ r. search (ended-above w g))
+    (⊎-elim (λ r. search (past-below w g))
+    (⊎-elim (λ r. search (letter-below w g))
+    (⊎-elim (λ r. search (letter-above w g)) (⊎-elim (λ r. search (word-below w g)) (λ r. search (leap-below w g)))))))
     (c .if1 .came)
 
 add-j : tie.Need-add-j Inv-loop2 μ-loop2 Inv-loop μ-loop
 add-j c = search needs
 
 loop-holds : tie.Need-loop-holds Inv-loop2 μ-loop2 Inv-loop μ-loop
-loop-holds c = join-start _ _ _ _ (c .before .before .pre .0) (c .before .before .pre .3)
+loop-holds c = search join-start
 
 mul-wide : tie.Need-mul-wide Inv-loop2 μ-loop2 Inv-loop μ-loop
 mul-wide c = search needs
@@ -65,26 +91,32 @@ slice-read-wide c = search needs
 wide-requires : tie.Need-wide-requires Inv-loop2 μ-loop2 Inv-loop μ-loop
 wide-requires c κs = search needs
 
-sub-d : tie.Need-sub-d Inv-loop2 μ-loop2 Inv-loop μ-loop
-sub-d c = search needs
+sub-word : tie.Need-sub-word Inv-loop2 μ-loop2 Inv-loop μ-loop
+sub-word c = search needs
 
 remembered-requires : tie.Need-remembered-requires Inv-loop2 μ-loop2 Inv-loop μ-loop
-remembered-requires c κs = factor-fits _ _ _ _ _ _ _ _ _ (c .before .before .before .before .loop .inv) (c .before .before .before .loop-test .taken) (c .before .before .before .before .before .before .before .pre .1) (c .before .wide .ensures)
+remembered-requires c κs = search factor-fits
 
 loop2-holds : tie.Need-loop2-holds Inv-loop2 μ-loop2 Inv-loop μ-loop
-loop2-holds c = record { agree = c .before .before .before .before .before .loop .inv .joining .agree (c .before .before .before .before .loop-test .taken); within = c .before .before .before .before .before .loop .inv .joining .within (c .before .before .before .before .loop-test .taken) }
+loop2-holds c = agreeing-start (facts c)
 
-add-a : tie.Need-add-a Inv-loop2 μ-loop2 Inv-loop μ-loop
-add-a c = omega (arith, at-comparison (c .before .before))
+add-letter : tie.Need-add-letter Inv-loop2 μ-loop2 Inv-loop μ-loop
+add-letter c = omega (arith, facts (begun c))
 
-shared-slice-read-a : tie.Need-shared-slice-read-a Inv-loop2 μ-loop2 Inv-loop μ-loop
-shared-slice-read-a c = omega (arith, at-comparison (c .before .before .before))
+shared-slice-read-letter : tie.Need-shared-slice-read-letter Inv-loop2 μ-loop2 Inv-loop μ-loop
+shared-slice-read-letter c = omega (arith, facts (begun (c .before)))
 
-add-b : tie.Need-add-b Inv-loop2 μ-loop2 Inv-loop μ-loop
-add-b c = omega (arith, at-comparison (c .before .before .before))
+letter-requires : tie.Need-letter-requires Inv-loop2 μ-loop2 Inv-loop μ-loop
+letter-requires c κs = search needs
 
-shared-slice-read-b : tie.Need-shared-slice-read-b Inv-loop2 μ-loop2 Inv-loop μ-loop
-shared-slice-read-b c = omega (arith, at-comparison (c .before .before .before .before))
+add-letter-2 : tie.Need-add-letter-2 Inv-loop2 μ-loop2 Inv-loop μ-loop
+add-letter-2 c = omega (arith, facts (begun (c .before .before)))
+
+shared-slice-read-letter-2 : tie.Need-shared-slice-read-letter-2 Inv-loop2 μ-loop2 Inv-loop μ-loop
+shared-slice-read-letter-2 c = omega (arith, facts (begun (c .before .before .before)))
+
+letter-requires-2 : tie.Need-letter-requires-2 Inv-loop2 μ-loop2 Inv-loop μ-loop
+letter-requires-2 c κs = search needs
 
 smaller-requires : tie.Need-smaller-requires Inv-loop2 μ-loop2 Inv-loop μ-loop
 smaller-requires c κs = search needs
@@ -99,49 +131,57 @@ mul-wide-2 : tie.Need-mul-wide-2 Inv-loop2 μ-loop2 Inv-loop μ-loop
 mul-wide-2 c = search needs
 
 slice-read-wide-2 : tie.Need-slice-read-wide-2 Inv-loop2 μ-loop2 Inv-loop μ-loop
-slice-read-wide-2 c = omega (arith, at-comparison (c .before .before .before .before .before .before .before .before .before), c .before .before .if7 .taken)
+slice-read-wide-2 c = omega (arith, facts (begun (turn (agreed (c .before)))))
 
 wide-requires-2 : tie.Need-wide-requires-2 Inv-loop2 μ-loop2 Inv-loop μ-loop
 wide-requires-2 c κs = search needs
 
 add-if9 : tie.Need-add-if9 Inv-loop2 μ-loop2 Inv-loop μ-loop
-add-if9 c = omega (arith, at-comparison (c .before .before .before .before .before .before .before .before .before .before), c .wide2 .ensures, c .before .slice-known3 .given (c .before .before .before .before .before .before .before .before .before .before .before .before .before .before .before .loop .j + (c .before .before .before .before .before .before .before .before .before .before .before .before .before .before .before .loop .j - c .before .before .before .before .before .before .before .before .before .before .before .before .before .before .before .before .before .before .args .i)))
+add-if9 c =
+    let at-begun = begun (turn (agreed (c .before .before))) in
+    let at-head = head at-begun in
+    let word = at-head .loop .j - call at-head .args .i in
+    omega (arith, facts at-begun, c .wide2 .ensures, c .before .slice-known3 .given (at-head .loop .j + word))
 
 add-k-2 : tie.Need-add-k-2 Inv-loop2 μ-loop2 Inv-loop μ-loop
-add-k-2 c = omega (arith, at-comparison (c .before .before .before .before .before .before .before .before .before .before .before))
+add-k-2 c = omega (arith, facts (begun (turn (agreed (c .before .before .before)))))
 
 loop2-less : tie.Need-loop2-less Inv-loop2 μ-loop2 Inv-loop μ-loop
 loop2-less c = search needs
 
 loop2-again : tie.Need-loop2-again Inv-loop2 μ-loop2 Inv-loop μ-loop
-loop2-again c = agree-more _ _ _ _ _ _ _ _ _ _ (at-comparison (c .before .before .before .before .before .before .before .before .before .before .before)) _ (c .before .before .before .before .before .before .before .before .before .before .loop2 .inv) (c .before .before .before .before .before .before .before .before .before .if1 .left) (c .before .before .before .before .before .before .if3 .left)
+loop2-again c = more (agreed (c .before .before .before))
 
 loop2-less-2 : tie.Need-loop2-less-2 Inv-loop2 μ-loop2 Inv-loop μ-loop
 loop2-less-2 c = search needs
 
 loop2-again-2 : tie.Need-loop2-again-2 Inv-loop2 μ-loop2 Inv-loop μ-loop
-loop2-again-2 c = agree-more _ _ _ _ _ _ _ _ _ _ (at-comparison (c .before .before .before .before .before .before .before)) _ (c .before .before .before .before .before .before .loop2 .inv) (c .before .before .before .before .before .if1 .left) (c .before .before .if3 .left)
+loop2-again-2 c = more (c .before .before)
 
 loop2-less-3 : tie.Need-loop2-less-3 Inv-loop2 μ-loop2 Inv-loop μ-loop
 loop2-less-3 c = search needs
 
 loop2-again-3 : tie.Need-loop2-again-3 Inv-loop2 μ-loop2 Inv-loop μ-loop
-loop2-again-3 c = agree-more _ _ _ _ _ _ _ _ _ _ (at-comparison (c .before .before .before .before .before .before)) _ (c .before .before .before .before .before .loop2 .inv) (c .before .before .before .before .if1 .left) (c .before .if3 .left)
+loop2-again-3 c = more (c .before)
 
 enum-told : tie.Need-enum-told Inv-loop2 μ-loop2 Inv-loop μ-loop
 enum-told c = search needs
 
 restore-requires : tie.Need-restore-requires Inv-loop2 μ-loop2 Inv-loop μ-loop
-restore-requires c κs = omega (arith, at-comparison (c .before .before .before .before .before))
+restore-requires c κs = omega (arith, facts (began (c .before .before .before)))
 
 add-j-2 : tie.Need-add-j-2 Inv-loop2 μ-loop2 Inv-loop μ-loop
-add-j-2 c = omega (arith, at-comparison (c .before .before .before .before .before .before .before .before .before))
+add-j-2 c = omega (arith, facts (began (ended c)))
 
 loop-less : tie.Need-loop-less Inv-loop2 μ-loop2 Inv-loop μ-loop
-loop-less c = omega (arith, at-comparison (c .before .before .before .before .before .before .before .before .before))
+loop-less c = omega (arith, facts (began (ended c)))
 
 loop-again : tie.Need-loop-again Inv-loop2 μ-loop2 Inv-loop μ-loop
-loop-again c = rw (c .before .before .before .restore .ensures) (join-step _ _ _ _ _ _ _ _ _ _ (at-comparison (c .before .before .before .before .before .before .before .before .before)) (c .before .before .before .before .before .before .before .if1 .k) (c .if10 .k) (subst (λ (v : Comparison). Compared (c .before .before .before .before .before .before .before .before .before .before .before .before .before .before .before .before .before .args .order) (c .before .before .before .before .before .before .before .before .before .before .before .before .before .before .before .before .before .args .text .now) (c .before .before .before .before .before .before .before .before .before .before .before .before .before .before .before .before .before .args .i) (c .before .before .before .before .before .before .before .before .before .before .before .before .before .before .loop .j) (c .before .before .before .before .before .before .before .if1 .k) v) (c .before .before .before .before .before .enum-told .given .1) (told (c .before .before .before .before .before .before .before))) (⊎-elim (λ r. omega (arith, r .0 .taken, r .1)) (λ r. omega (arith, r .1)) (c .if10 .came)) (⊎-elim (λ r. omega (arith, r .1)) (λ r. omega (arith, r .0 .left, r .1)) (c .if10 .came)))
+loop-again c =
+    join-step (facts (began (ended c))) (told (ended c)) (c .before .before .before .before .before .enum-told .given .1)
+    (⊎-elim (λ r. omega (arith, r .0 .taken, r .1)) (λ r. omega (arith, r .1)) (c .if10 .came))
+    (⊎-elim (λ r. omega (arith, r .1)) (λ r. omega (arith, r .0 .left, r .1)) (c .if10 .came))
+    (c .before .before .before .restore .ensures)
 
 enum-told-2 : tie.Need-enum-told-2 Inv-loop2 μ-loop2 Inv-loop μ-loop
 enum-told-2 c = search needs
@@ -150,7 +190,7 @@ same-length : tie.Need-same-length Inv-loop2 μ-loop2 Inv-loop μ-loop
 same-length c = search needs
 
 returns : tie.Need-returns Inv-loop2 μ-loop2 Inv-loop μ-loop
-returns c = joined-same _ _ _ _ _ _ _ _ _ _ (at-comparison (c .before .before .before .before)) _ (subst (λ (v : Comparison). Compared (c .before .before .before .before .before .before .before .before .before .before .before .before .args .order) (c .before .before .before .before .before .before .before .before .before .before .before .before .args .text .now) (c .before .before .before .before .before .before .before .before .before .before .before .before .args .i) (c .before .before .before .before .before .before .before .before .before .loop .j) (c .before .before .if1 .k) v) (c .enum-told2 .given .1) (told (c .before .before)))
+returns c = joined-same (facts (began (c .before .before))) (told (c .before .before)) (c .enum-told2 .given .1)
 
 enum-told-3 : tie.Need-enum-told-3 Inv-loop2 μ-loop2 Inv-loop μ-loop
 enum-told-3 c = search needs
@@ -159,13 +199,13 @@ same-length-2 : tie.Need-same-length-2 Inv-loop2 μ-loop2 Inv-loop μ-loop
 same-length-2 c = search needs
 
 returns-2 : tie.Need-returns-2 Inv-loop2 μ-loop2 Inv-loop μ-loop
-returns-2 c = joined-above _ _ _ _ _ _ _ _ _ _ (at-comparison (c .before .before .before .before)) _ (subst (λ (v : Comparison). Compared (c .before .before .before .before .before .before .before .before .before .before .before .before .args .order) (c .before .before .before .before .before .before .before .before .before .before .before .before .args .text .now) (c .before .before .before .before .before .before .before .before .before .before .before .before .args .i) (c .before .before .before .before .before .before .before .before .before .loop .j) (c .before .before .if1 .k) v) (c .enum-told3 .given .1) (told (c .before .before)))
+returns-2 c = joined-above (facts (began (c .before .before))) (told (c .before .before)) (c .enum-told3 .given .1)
 
 same-length-3 : tie.Need-same-length-3 Inv-loop2 μ-loop2 Inv-loop μ-loop
 same-length-3 c = search needs
 
 returns-3 : tie.Need-returns-3 Inv-loop2 μ-loop2 Inv-loop μ-loop
-returns-3 c = joined-end _ _ _ _ _ _ _ _ (c .before .loop .inv) (c .loop-test .left)
+returns-3 c = search joined-end
 
 pub join-spec : {M : Type 1} → statement M
 join-spec =
@@ -180,13 +220,15 @@ join-spec =
     mul-wide
     slice-read-wide
     wide-requires
-    sub-d
+    sub-word
     remembered-requires
     loop2-holds
-    add-a
-    shared-slice-read-a
-    add-b
-    shared-slice-read-b
+    add-letter
+    shared-slice-read-letter
+    letter-requires
+    add-letter-2
+    shared-slice-read-letter-2
+    letter-requires-2
     smaller-requires
     add-k
     add-wide

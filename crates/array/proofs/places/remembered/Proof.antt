@@ -1,3 +1,5 @@
+-- `array::places::remembered` meets its contract: the test on the length picks the case.
+-- Assumes nothing.
 use borrow.Author.Needs.{needs}
 use borrow.Author.Tests.{lt-ltb, le-ltb}
 use Rattle.array.proofs.places.remembered.Statement.{statement}

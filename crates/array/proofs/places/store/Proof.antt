@@ -20,7 +20,7 @@ slice-write-buf : tie.Need-slice-write-buf
 slice-write-buf c = search needs
 
 cast-buf-2 : tie.Need-cast-buf-2
-cast-buf-2 c = omega (arith, c .before .pre .3 (c .if1 .taken))
+cast-buf-2 c = omega (arith, c .before .pre .stored (c .if1 .taken))
 
 sub-buf : tie.Need-sub-buf
 sub-buf c = search needs

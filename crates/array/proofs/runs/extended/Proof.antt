@@ -1,13 +1,25 @@
 -- `array::runs::extended` meets its contract: each case by the comparison that stopped the joining.
 -- Assumes nothing.
 use native.Mathlib.Omega.{arith}
-use Rattle.array.proofs.RunLaws.{extended-end, extended-letter, extended-further, further-fits, extended-same, extended-below}
+use Rattle.array.proofs.Extension.{extended-end, extended-letter, extended-further, further-fits, extended-same, extended-below}
+use Rattle.array.specs.Core.Join.{Agreeing}
 use borrow.Author.Needs.{needs}
 use Rattle.array.proofs.runs.extended.Statement.{statement}
 use Rattle.array.proofs.runs.extended.Tie as tie
 
+-- The moments that facts are told at: the call, and `end` inside the text.
+abbrev start : tie.Else1 → tie.Start
+start c = c .before .before .before
+
+abbrev inside : tie.Else2 → tie.Else1
+inside c = c .before .before .before .before .before
+
+-- The letters known to agree.
+agreeing : (c : tie.Else1) → Agreeing (start c .args .text .now) (start c .args .i) (start c .args .end) (start c .args .agreed)
+agreeing c = start c .pre .agreeing (c .if1 .left)
+
 returns : tie.Need-returns
-returns c = extended-end _ _ _ _ _ _ (c .before .before .before .pre) (c .if1 .taken)
+returns c = search extended-end
 
 enum-told : tie.Need-enum-told
 enum-told c = search needs
@@ -22,28 +34,28 @@ wide-requires : tie.Need-wide-requires
 wide-requires c κs = search needs
 
 returns-2 : tie.Need-returns-2
-returns-2 c = extended-letter _ _ _ _ _ _ (c .before .before .before .enum-told .given .1) (c .before .before .before .before .before .before .before .before .pre) (c .before .before .before .before .before .if1 .left) (omega (arith, c .if2 .taken, c .before .wide .ensures))
+returns-2 c = search extended-letter
 
 add-u : tie.Need-add-u
-add-u c = omega (arith, c .before .before .before .before .before .before .before .before .pre .agreeing (c .before .before .before .before .before .if1 .left) .within, c .before .before .before .before .before .before .before .before .pre .after, c .before .before .before .before .before .before .before .before .pre .inside)
+add-u c = omega (arith, agreeing (inside c))
 
 sub-u : tie.Need-sub-u
-sub-u c = omega (arith, c .before .before .before .before .before .before .before .before .pre .agreeing (c .before .before .before .before .before .if1 .left) .within, c .before .before .before .before .before .before .before .before .pre .after, c .before .before .before .before .before .before .before .before .pre .inside)
+sub-u c = omega (arith, agreeing (inside c))
 
 part-u-start : tie.Need-part-u-start
-part-u-start c = omega (arith, c .before .before .before .before .before .before .before .before .pre .agreeing (c .before .before .before .before .before .if1 .left) .within, c .before .before .before .before .before .before .before .before .pre .after, c .before .before .before .before .before .before .before .before .pre .inside)
+part-u-start c = omega (arith, agreeing (inside c))
 
 part-u-end : tie.Need-part-u-end
 part-u-end c = search needs
 
 add-v : tie.Need-add-v
-add-v c = omega (arith, c .before .before .before .before .before .before .before .before .before .pre .agreeing (c .before .before .before .before .before .before .if1 .left) .within, c .before .before .before .before .before .before .before .before .before .pre .after, c .before .before .before .before .before .before .before .before .before .pre .inside)
+add-v c = omega (arith, agreeing (inside (c .before)))
 
 sub-v : tie.Need-sub-v
-sub-v c = omega (arith, c .before .before .before .before .before .before .before .before .before .pre .agreeing (c .before .before .before .before .before .before .if1 .left) .within, c .before .before .before .before .before .before .before .before .before .pre .after, c .before .before .before .before .before .before .before .before .before .pre .inside)
+sub-v c = omega (arith, agreeing (inside (c .before)))
 
 part-v-start : tie.Need-part-v-start
-part-v-start c = omega (arith, c .before .before .before .before .before .before .before .before .before .pre .agreeing (c .before .before .before .before .before .before .if1 .left) .within, c .before .before .before .before .before .before .before .before .before .pre .after, c .before .before .before .before .before .before .before .before .before .pre .inside)
+part-v-start c = omega (arith, agreeing (inside (c .before)))
 
 part-v-end : tie.Need-part-v-end
 part-v-end c = search needs
@@ -52,7 +64,9 @@ common-prefix-requires : tie.Need-common-prefix-requires
 common-prefix-requires c κs = search needs
 
 add-result : tie.Need-add-result
-add-result c = omega (arith, further-fits _ _ _ _ _ _ (c .before .before .before .before .before .before .before .before .before .before .before .pre) (c .before .before .before .before .before .before .before .before .if1 .left) _ (c .common-prefix .ensures))
+add-result c =
+    let at-inside = inside (c .before .before .before) in
+    omega (arith, further-fits _ _ _ _ _ _ (start at-inside .pre) (at-inside .if1 .left) _ (c .common-prefix .ensures))
 
 enum-told-2 : tie.Need-enum-told-2
 enum-told-2 c = search needs
@@ -61,13 +75,13 @@ enum-told-3 : tie.Need-enum-told-3
 enum-told-3 c = search needs
 
 returns-3 : tie.Need-returns-3
-returns-3 c = extended-further _ _ _ _ _ _ (c .before .before .before .before .before .before .enum-told .given .1) (c .before .before .before .before .before .before .before .before .before .before .before .pre) (c .before .before .before .before .before .before .before .before .if1 .left) _ (c .common-prefix .ensures)
+returns-3 c = search extended-further
 
 returns-4 : tie.Need-returns-4
-returns-4 c = extended-same _ _ _ _ _ _ (c .enum-told2 .given .1) (c .before .before .before .before .before .pre) (c .before .before .if1 .left)
+returns-4 c = search extended-same
 
 returns-5 : tie.Need-returns-5
-returns-5 c = extended-below (c .before .before .before .before .before .args .text .now) (c .before .before .before .before .before .args .buf .now) _ _ _ _ (c .enum-told3 .given .1)
+returns-5 c = search extended-below
 
 pub extended-spec : {M : Type 1} → statement M
 extended-spec =

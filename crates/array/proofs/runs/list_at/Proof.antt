@@ -2,7 +2,9 @@
 -- Assumes nothing.
 use native.Mathlib.Omega.{arith}
 use mathlib.Core.Logic.{⊎-elim}
-use Rattle.array.proofs.RunLaws.{too-short, at-text-end, run-found}
+use Prim.Native.Nat.{_+_, _<_}
+use lib.ListN.{length}
+use Rattle.array.proofs.RunEntry.{too-short, at-text-end, run-found}
 use borrow.Author.Needs.{needs}
 use Rattle.array.proofs.runs.list_at.Statement.{statement}
 use Rattle.array.proofs.runs.list_at.Tie as tie
@@ -20,13 +22,13 @@ add-if1 : tie.Need-add-if1
 add-if1 c = search needs
 
 returns : tie.Need-returns
-returns c = too-short _ _ _ _ _ _ _ _ (c .before .before .before .before .pre .0) (c .before .start-of .ensures) (c .if1 .taken)
+returns c = search too-short
 
 add-if3 : tie.Need-add-if3
 add-if3 c = search needs
 
 returns-2 : tie.Need-returns-2
-returns-2 c = at-text-end _ _ _ _ _ _ _ _ (c .before .before .before .before .before .before .pre .0) (c .before .before .before .start-of .ensures) (c .before .if2 .taken) (c .if3 .taken)
+returns-2 c = search at-text-end
 
 add-write-entry : tie.Need-add-write-entry
 add-write-entry c = search needs
@@ -44,7 +46,13 @@ same-length : tie.Need-same-length
 same-length c = search needs
 
 returns-3 : tie.Need-returns-3
-returns-3 c = run-found _ _ _ _ _ _ _ _ (c .before .before .before .before .before .before .before .before .before .pre .0) (c .before .before .before .before .before .before .start-of .ensures) (c .before .before .before .before .before .if1 .left) (λ h. ⊎-elim (λ r. omega (arith, r .1 .left, c .before .before .before .before .before .before .before .before .before .pre .0 .exact .within)) (λ r. absurd (omega (arith, h, r .left))) (c .before .before .before .before .if2 .came)) _ (c .before .before .write-entry .ensures)
+returns-3 c =
+    let at-tests = c .before .before .before .before in
+    let args = at-tests .before .before .before .before .before .args in
+    let inside = at-tests .before .before .before .before .before .pre .0 .exact .within in
+    let early : 0 < args .order → args .end + args .k < length (args .text .now) =
+    λ h. ⊎-elim (λ r. omega (arith, r .1 .left, inside)) (λ r. absurd (omega (arith, h, r .left))) (at-tests .if2 .came) in
+    search run-found
 
 pub list-at-spec : {M : Type 1} → statement M
 list-at-spec =

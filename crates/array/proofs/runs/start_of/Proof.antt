@@ -1,8 +1,7 @@
 -- `array::runs::start_of` meets its contract: the letters from s up to i continue the period.
 -- Assumes nothing.
 use borrow.Author.Needs.{needs}
-use native.Mathlib.Omega.{arith}
-use Rattle.array.proofs.RunLaws.{LeftSoFar, left-start, left-more, left-stop, left-end}
+use Rattle.array.proofs.LeftExtension.{LeftSoFar, left-start, left-more, left-stop, left-end}
 use Rattle.array.proofs.runs.start_of.Statement.{statement}
 use Rattle.array.proofs.runs.start_of.Tie as tie
 
@@ -31,7 +30,7 @@ shared-slice-read-if1-2 : tie.Need-shared-slice-read-if1-2 Inv-loop μ-loop
 shared-slice-read-if1-2 c = search needs
 
 returns : tie.Need-returns Inv-loop μ-loop
-returns c = left-stop _ _ _ _ (c .before .before .before .before .loop .inv) (c .if1 .taken)
+returns c = search left-stop
 
 sub-s : tie.Need-sub-s Inv-loop μ-loop
 sub-s c = search needs
@@ -40,10 +39,10 @@ loop-less : tie.Need-loop-less Inv-loop μ-loop
 loop-less c = search needs
 
 loop-again : tie.Need-loop-again Inv-loop μ-loop
-loop-again c = left-more _ _ _ _ (c .before .before .before .before .loop .inv) (c .before .before .before .loop-test .taken) (c .if1 .left)
+loop-again c = search left-more
 
 returns-2 : tie.Need-returns-2 Inv-loop μ-loop
-returns-2 c = left-end _ _ _ _ (c .before .loop .inv) (c .loop-test .left)
+returns-2 c = search left-end
 
 pub start-of-spec : {M : Type 1} → statement M
 start-of-spec =

@@ -1,0 +1,100 @@
+-- Visiting every position from the last to the first.
+-- Assumes nothing.
+use mathlib.Core.Path.{_≡_, refl, subst, sym, ap, _∙_}
+use mathlib.Core.List.{List, [], _∷_, _++_}
+use Prim.Native.Nat.{ℕ, suc, _+_, _<_, _≤_, _-_, _*_}
+use native.Mathlib.Omega.{arith}
+use lib.ListN.{length, length-append}
+use Rattle.words.specs.Laws.EachRunOnce.{ListsDown, lists-none, lists-skip, lists-one}
+use Rattle.words.specs.Laws.RunMarks.{endBound}
+use Rattle.words.specs.Laws.SpanLyndon.{letters}
+use Rattle.words.specs.Letters.{orderOf}
+use Rattle.answer.specs.Limits.{maxLength}
+use Rattle.sorting.specs.Exchange.{put}
+use Rattle.array.specs.Core.Fill.{Filled}
+use Rattle.array.specs.Core.RunPass.{putAll, Listed, skipped, listed, VisitReady, Visited, Passing}
+use Rattle.array.proofs.Filling.{filled-start, filled-ready}
+use Rattle.array.proofs.PutAll.{putAll-length, putAll-append}
+
+-- No position has been visited.
+pub passing-start : (order : ℕ) (x buf list : List ℕ) (from : ℕ) → Passing order x buf buf list list from (length x) from
+passing-start order x buf list from =
+    record {
+      filled = filled-start order x buf;
+      entries = [];
+      lists = lists-none (orderOf order) (letters 0 x) (length x) (endBound order (length x));
+      counted = omega arith;
+      content = refl;
+    }
+
+-- Position i has been visited after those from m on.
+visit-more : (order : ℕ) (x before buf buf′ list list′ list″ : List ℕ) (from i m count r : ℕ) → Passing order x before buf list list′ from m count →
+    m ≡ suc i → Visited order x buf buf′ list′ list″ i count r → Passing order x before buf′ list list″ from i r
+visit-more order x before buf buf′ list list′ list″ from i m count r p next v = go (v .entry)
+  where
+    lists : ListsDown (orderOf order) (letters 0 x) (length x) (endBound order (length x)) (suc i) (p .entries)
+    lists = subst (λ (t : ℕ). ListsDown (orderOf order) (letters 0 x) (length x) (endBound order (length x)) t (p .entries)) next (p .lists)
+
+    filled : Filled order x before buf′ i
+    filled =
+        record {
+          rows = v .rows;
+          others =
+              record {
+                size = v .others .size ∙ p .filled .others .size;
+                kept = λ t h. v .others .kept t h ∙ p .filled .others .kept t h;
+              };
+        }
+
+    go : Listed order x list′ list″ i count r → Passing order x before buf′ list list″ from i r
+    go (skipped a b c) =
+        record {
+          filled = filled;
+          entries = p .entries;
+          lists = lists-skip (orderOf order) (letters 0 x) (length x) (endBound order (length x)) i (p .entries) lists c;
+          counted = a ∙ p .counted;
+          content = b ∙ p .content;
+        }
+    go (listed e a b c) =
+        record {
+          filled = filled;
+          entries = p .entries ++ (e ∷ []);
+          lists = lists-one (orderOf order) (letters 0 x) (length x) (endBound order (length x)) i (p .entries) e lists a;
+          counted = omega (arith, p .counted, length-append (p .entries) (e ∷ []));
+          content =
+              c ∙ ap (λ (l : List ℕ). put l count e) (p .content) ∙ ap (λ (k : ℕ). put (putAll list from (p .entries)) k e) (p .counted) ∙
+              sym (putAll-append list from (p .entries) (e ∷ []));
+        }
+
+-- One position more has been visited.
+pub passing-step : (order : ℕ) (x before buf buf′ list list′ list″ : List ℕ) (from i count r : ℕ) → Passing order x before buf list list′ from i count →
+    0 < i → Visited order x buf buf′ list′ list″ (i - 1) count r → Passing order x before buf′ list list″ from (i - 1) r
+passing-step order x before buf buf′ list list′ list″ from i count r p h v =
+    visit-more order x before buf buf′ list list′ list″ from (i - 1) i count r p (omega arith) v
+
+-- Every position has been visited.
+pub passing-end : (order : ℕ) (x before buf list list′ : List ℕ) (from i count : ℕ) → Passing order x before buf list list′ from i count → i ≤ 0 →
+    Passing order x before buf list list′ from 0 count
+passing-end order x before buf list list′ from i count p h =
+    let z : i ≡ 0 = omega arith in
+    subst (λ (k : ℕ). Passing order x before buf list list′ from k count) z p
+
+-- There is room for one entry more.
+passing-room : (order : ℕ) (x before buf list list′ : List ℕ) (from i count : ℕ) → Passing order x before buf list list′ from i count → 0 < i →
+    3 * from + 3 * length x ≤ length list → 3 * count + 3 ≤ length list′
+passing-room order x before buf list list′ from i count p h fits =
+    omega (arith, p .counted, p .lists .size, ap length (p .content) ∙ putAll-length list from (p .entries))
+
+-- What visiting the position before i asks for.
+pub passing-ready : (order : ℕ) (x before buf list list′ : List ℕ) (from i count : ℕ) → Passing order x before buf list list′ from i count →
+    length x ≤ length before → length x ≤ maxLength → 0 < i → i ≤ length x → 3 * from + 3 * length x ≤ length list →
+    VisitReady order x buf list′ count (i - 1)
+passing-ready order x before buf list list′ from i count p fits small h q room =
+    record {
+      join = filled-ready order x before buf i (p .filled) fits small h q;
+      room = passing-room order x before buf list list′ from i count p h room;
+    }
+
+pub passing-length : (order : ℕ) (x before buf list list′ : List ℕ) (from i count : ℕ) → Passing order x before buf list list′ from i count →
+    length list′ ≡ length list
+passing-length order x before buf list list′ from i count p = ap length (p .content) ∙ putAll-length list from (p .entries)
