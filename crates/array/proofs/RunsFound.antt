@@ -16,7 +16,7 @@ use Rattle.words.specs.Compute.LyndonArray.{arrayOf, arrayOf-holds}
 use Rattle.words.specs.Laws.RunSearch.{runsOf-holds}
 use Rattle.answer.specs.Checks.{written}
 use Rattle.sorting.specs.Exchange.{put}
-use Rattle.sorting.specs.Triples.{AfterSort}
+use Rattle.sorting.specs.Triples.{sortedContent}
 use Rattle.sorting.specs.RunList.{RunsSorted, runs-sorted, sorted-member, member-sorted, sorted-length}
 use Rattle.array.specs.Calls.{runList, bothArrays}
 use Rattle.array.proofs.Entries.{letters-compared}
@@ -62,7 +62,7 @@ putAll-written l rs h =
 module _ (x : List ℕ) (work work₁ part list list₁ list₂ list₃ : List ℕ) (first count : ℕ)
     (a : OrderDone 0 x work work₁ list list₁ 0 first)
     (b : OrderDone 1 x (take (length work₁ - length x) (drop (length x) work₁)) part list₁ list₂ first count)
-    (s : AfterSort count list₂ list₃) (work-fits : 2 * length x ≤ length work) (list-fits : 6 * length x ≤ length list) where
+    (s : list₃ ≡ sortedContent count list₂) (work-fits : 2 * length x ≤ length work) (list-fits : 6 * length x ≤ length list) where
   once : EachRunOnce x (a .entries ++ b .entries)
   once = each-run-once rising 0 x (letters-compared 0 x) (a .entries) (b .entries) (a .lists) (b .lists)
 
@@ -80,7 +80,7 @@ module _ (x : List ℕ) (work work₁ part list list₁ list₂ list₃ : List �
   sorted : RunsSorted (a .entries ++ b .entries) (drop (length (numbers (a .entries ++ b .entries))) list) list₃
   sorted =
       runs-sorted (a .entries ++ b .entries) (drop (length (numbers (a .entries ++ b .entries))) list) list₂ list₃ found
-      (subst (λ (k : ℕ). AfterSort k list₂ list₃) number s)
+      (subst (λ (k : ℕ). list₃ ≡ sortedContent k list₂) number s)
 
   is-list : sorted .entries ≡ runList x
   is-list =

@@ -15,12 +15,12 @@ use Rattle.words.specs.Laws.LongestEnding.{LongestEnding, longest-ending}
 use Rattle.words.specs.Laws.LeftForest.{Uncrossed, LeftRecords, longest-nested, records-left-forest}
 use Rattle.words.specs.Laws.ForestUnique.{left-forest-unique}
 use Rattle.factors.specs.Default.{defaultOrder, decided-default}
-use Rattle.factors.specs.Room.{Room}
+use Rattle.factors.specs.TextRoom.{TextRoom}
 use Rattle.factors.specs.Results.{Tabled, Grown}
 use Rattle.factors.specs.Links.{startIn, Descends, Linked, Linkable, Crossed, OwnRoots}
 use Rattle.factors.proofs.Written.{written-places}
 
-module _ (x first past table : List ℕ) (room-first : Room x first) (room-past : Room x past) (w : Tabled x past table (length x)) where
+module _ (x first past table : List ℕ) (room-first : TextRoom x first) (room-past : TextRoom x past) (w : Tabled x past table (length x)) where
   table-start : (t : ℕ) → (l : t < length x) → w .entry t l .start ≡ startIn table t
   table-start t l = omega (arith, w .entry t l .ends)
 

@@ -13,8 +13,8 @@ use Rattle.factors.specs.Default.{decided-default}
 use Rattle.factors.specs.Duval.{stretchAt, factorsFrom, duval}
 use Rattle.factors.specs.DuvalSteps.{Bounded, Kept, stretch-bounded, factors-step, factors-end}
 use Rattle.factors.specs.DuvalFactorization.{duval-factorization}
-use Rattle.factors.specs.Room.{Room}
-use Rattle.factors.specs.Results.{Listed}
+use Rattle.factors.specs.TextRoom.{TextRoom}
+use Rattle.factors.specs.Results.{FactorsListed}
 
 -- `count` factors are listed and stand in the buffer; those that follow from `start` on are the rest of Duval's list.
 pub record Listing (x before out : List ℕ) (count start : ℕ) (s : Stretch) : Type 0 where
@@ -41,7 +41,7 @@ listing-start x out =
       content = refl;
     }
 
-module _ (x before out : List ℕ) (count start : ℕ) (s : Stretch) (room : Room x before) (w : Listing x before out count start s) where
+module _ (x before out : List ℕ) (count start : ℕ) (s : Stretch) (room : TextRoom x before) (w : Listing x before out count start s) where
   -- The buffer keeps its length.
   pub listing-length : length out ≡ length before
   listing-length =
@@ -86,7 +86,7 @@ module _ (x before out : List ℕ) (count start : ℕ) (s : Stretch) (room : Roo
       ap (λ (r : List ℕ). w .listed ++ r) (sym (factors-end decided-default 0 x (length x - count) start s l)) ∙
       w .rest
 
-  pub listing-end : length x ≤ start → Listed x before out count
+  pub listing-end : length x ≤ start → FactorsListed x before out count
   listing-end l =
       let e : w .listed ≡ factorizationOf decided-default x = all-listed l ∙ duval-factorization decided-default 0 x in
       record {

@@ -22,18 +22,18 @@ use Rattle.factors.specs.declared.scan.Stretch.{Stretch}
 use Rattle.factors.specs.Default.{defaultOrder, decided-default}
 use Rattle.factors.specs.DuvalSteps.{Bounded, answerAt}
 use Rattle.factors.specs.DuvalFactorization.{stopped-next, stopped-rest}
-use Rattle.factors.specs.Room.{Room}
-use Rattle.factors.specs.Results.{Tabled, Startable, Covered, Filled}
+use Rattle.factors.specs.TextRoom.{TextRoom}
+use Rattle.factors.specs.Results.{Tabled, Startable, Covered, TableFilled}
 
 -- The scan from `start` has come to `end` with a period, and the entries up to there are written.
 pub record Filling (x before out : List ℕ) (start period end : ℕ) : Type 0 where
   pub repetition : Repetition defaultOrder (letters 0 x) start period end
   pub inside : end ≤ length x
-  pub room : Room x out
+  pub room : TextRoom x out
   pub table : Tabled x before out end
 
 -- A store keeps the room.
-room-set : (x out : List ℕ) (i v : ℕ) → Room x out → Room x (set out i v)
+room-set : (x out : List ℕ) (i v : ℕ) → TextRoom x out → TextRoom x (set out i v)
 room-set x out i v room = record { short = room .short; places = omega (arith, length-set out i v, room .places) }
 
 -- One more entry.
@@ -54,7 +54,7 @@ tabled-more x before out e v w l m h =
         subst (λ (k : ℕ). LongestTo defaultOrder x t k) (sym (getD-set-other out e t v 0 r)) (w .entry t (omega (arith, r)))
 
 -- The entry of the position where the scan begins.
-pub filling-start : (x out : List ℕ) (start : ℕ) → Room x out → Startable x out start →
+pub filling-start : (x out : List ℕ) (start : ℕ) → TextRoom x out → Startable x out start →
     Filling x (set out start 1) (set out start 1) start 1 (start + 1)
 filling-start x out start room s =
     let e : suc start ≡ start + 1 = omega arith in
@@ -72,8 +72,8 @@ filling-start x out start room s =
     }
 
 -- What was filled in after the first entry was filled in after the buffer's old content.
-pub filled-first : (x before after : List ℕ) (start v : ℕ) (s : Stretch) → start < length x → Filled x (set before start v) after start s →
-    Filled x before after start s
+pub filled-first : (x before after : List ℕ) (start v : ℕ) (s : Stretch) → start < length x → TableFilled x (set before start v) after start s →
+    TableFilled x before after start s
 filled-first x before after start v s l w =
     record {
       stopped = w .stopped;
@@ -102,7 +102,7 @@ module _ (x before out : List ℕ) (start period end : ℕ)
     said c e = subst Said e (decided-default .right (letters 0 x end) (letters 0 x (end - period)))
 
     -- A smaller letter stops the scan.
-    pub filling-below : r ≡ Below → Filled x before out start (record { period = period; end = end })
+    pub filling-below : r ≡ Below → TableFilled x before out start (record { period = period; end = end })
     filling-below e =
         record {
           stopped =
@@ -157,7 +157,7 @@ module _ (x before out : List ℕ) (start period end : ℕ)
         }
 
   -- The end of the text stops the scan.
-  pub filling-end : length x ≤ end → Filled x before out start (record { period = period; end = end })
+  pub filling-end : length x ≤ end → TableFilled x before out start (record { period = period; end = end })
   filling-end l =
       record {
         stopped = record { repetition = w .repetition; inside = w .inside; stops = inl (omega (arith, w .inside)) };
@@ -170,7 +170,7 @@ covered-startable x out start s w l =
     record { inside = l; lowest = w .lowest; entry = λ t q. w .entry t (omega (arith, w .reached)) }
 
 -- Where it holds one, nothing is left to write.
-pub covered-filled : (x out : List ℕ) (start : ℕ) (s : Stretch) → Covered x out start s → start + s .period ≤ s .end → Filled x out out start s
+pub covered-filled : (x out : List ℕ) (start : ℕ) (s : Stretch) → Covered x out start s → start + s .period ≤ s .end → TableFilled x out out start s
 covered-filled x out start s w l =
     record { stopped = w .remains l; table = record { size = refl; entry = w .entry; past = λ t q. refl } }
 
@@ -188,16 +188,16 @@ covered-none x out =
 
 -- What holds at each turn of the loop over the factors.
 pub record Covering (x before out : List ℕ) (start : ℕ) (s : Stretch) : Type 0 where
-  pub room : Room x out
+  pub room : TextRoom x out
   pub covered : Covered x out start s
   pub size : length out ≡ length before
   pub past : (t : ℕ) → length x ≤ t → getD out t 0 ≡ getD before t 0
 
-pub covering-start : (x out : List ℕ) → Room x out → Covering x out out 0 (record { period = 1; end = 0 })
+pub covering-start : (x out : List ℕ) → TextRoom x out → Covering x out out 0 (record { period = 1; end = 0 })
 covering-start x out room = record { room = room; covered = covered-none x out; size = refl; past = λ t q. refl }
 
 module _ (x before out after : List ℕ) (start : ℕ) (s r : Stretch) (w : Covering x before out start s)
-    (f : Filled x out after start r) where
+    (f : TableFilled x out after start r) where
   -- The factor at `start` is not empty, and ends inside the text.
   pub filled-bounded : Bounded (length x) start r
   filled-bounded =

@@ -12,7 +12,7 @@ use Rattle.words.specs.Compute.SuffixTable.{suffixTableOf, suffixTableOf-holds}
 use Rattle.words.specs.Laws.Unique.{longest-to-unique}
 use Rattle.answer.specs.Checks.{written}
 use Rattle.factors.specs.Default.{defaultOrder, decided-default}
-use Rattle.factors.specs.Room.{Room}
+use Rattle.factors.specs.TextRoom.{TextRoom}
 use Rattle.factors.specs.Results.{Tabled}
 
 -- A buffer that has the list's entries at its first places and the old content at the others.
@@ -34,7 +34,7 @@ written-places l before after f e front back =
         ap (λ (j : ℕ). getD before j 0) k)
 
 -- A buffer that holds all entries of the suffix table has the table written into it.
-pub tabled-written : (x before after : List ℕ) → Room x before → Tabled x before after (length x) →
+pub tabled-written : (x before after : List ℕ) → TextRoom x before → Tabled x before after (length x) →
     after ≡ written (suffixTableOf decided-default x) before
 tabled-written x before after room w =
     let t : IsSuffixTable defaultOrder x (suffixTableOf decided-default x) = suffixTableOf-holds decided-default x in

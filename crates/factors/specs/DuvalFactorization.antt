@@ -21,25 +21,25 @@ use Rattle.factors.specs.Duval.{scanFrom, scanOf, stretchAt, factorsFrom
 use Rattle.factors.specs.DuvalSteps.{answerAt}
 
 -- A scan from `start` has stopped with the stretch s: what it read repeats a Lyndon word, and cannot be continued.
-pub record Stopped {ℓ κ} {A : Type ℓ} (O : Letters {ℓ, κ} A) (x : ℕ → A) (n start : ℕ) (s : Stretch) : Type (ℓ ⊔ κ) where
+pub record ScanStopped {ℓ κ} {A : Type ℓ} (O : Letters {ℓ, κ} A) (x : ℕ → A) (n start : ℕ) (s : Stretch) : Type (ℓ ⊔ κ) where
   pub repetition : Repetition O x start (s .period) (s .end)
   pub inside : s .end ≤ n
   pub stops : Stops O x n (s .period) (s .end)
 
 module _ {ℓ κ} {A : Type ℓ} (O : Letters {ℓ, κ} A) (x : ℕ → A) (n : ℕ) where
   -- The first copy is a factor.
-  pub stopped-next : (start : ℕ) (s : Stretch) → Stopped O x n start s → NextSmaller O x n start (start + s .period)
+  pub stopped-next : (start : ℕ) (s : Stretch) → ScanStopped O x n start s → NextSmaller O x n start (start + s .period)
   stopped-next start s w = repetition-ends O x start (s .period) (s .end) (w .repetition) n (w .inside) (w .stops)
 
   -- And so is the next one, while there is one.
-  pub stopped-rest : (start : ℕ) (s : Stretch) → Stopped O x n start s → start + s .period + s .period ≤ s .end →
-      Stopped O x n (start + s .period) s
+  pub stopped-rest : (start : ℕ) (s : Stretch) → ScanStopped O x n start s → start + s .period + s .period ≤ s .end →
+      ScanStopped O x n (start + s .period) s
   stopped-rest start s w l =
       record { repetition = repetition-next O x start (s .period) (s .end) (w .repetition) l; inside = w .inside; stops = w .stops }
 
 module _ {ℓ κ} {A : Type ℓ} {O : Letters {ℓ, κ} A} (D : Decided O) (z : A) (x : List A) where
   scanFrom-stopped : (fuel start p j : ℕ) → Repetition O (letters z x) start p j → j + fuel ≡ length x →
-      Stopped O (letters z x) (length x) start (scanFrom D z x fuel start p j)
+      ScanStopped O (letters z x) (length x) start (scanFrom D z x fuel start p j)
   scanFrom-stopped zero start p j r e = record { repetition = r; inside = omega arith; stops = inl (omega arith) }
   scanFrom-stopped (suc fuel) start p j r e =
       go (answerAt D z x p j) (D .right (letters z x j) (letters z x (j - p))) (scanFrom-stopped fuel start)
@@ -49,8 +49,8 @@ module _ {ℓ κ} {A : Type ℓ} {O : Letters {ℓ, κ} A} (D : Decided O) (z : 
 
       go : (c : Comparison) → Means O c (letters z x j) (letters z x (j - p)) →
           ((p j : ℕ) → Repetition O (letters z x) start p j → j + fuel ≡ length x →
-          Stopped O (letters z x) (length x) start (scanFrom D z x fuel start p j)) →
-          Stopped O (letters z x) (length x) start
+          ScanStopped O (letters z x) (length x) start (scanFrom D z x fuel start p j)) →
+          ScanStopped O (letters z x) (length x) start
           (elim c [
             | below ↦ record { period = p; end = j }
             | same ↦ scanFrom D z x fuel start p (suc j)
@@ -64,20 +64,20 @@ module _ {ℓ κ} {A : Type ℓ} {O : Letters {ℓ, κ} A} (D : Decided O) (z : 
           (omega arith)
 
   -- A scan stops.
-  pub scan-stopped : (start : ℕ) → start < length x → Stopped O (letters z x) (length x) start (scanOf D z x start)
+  pub scan-stopped : (start : ℕ) → start < length x → ScanStopped O (letters z x) (length x) start (scanOf D z x start)
   scan-stopped start l =
       scanFrom-stopped (length x - suc start) start 1 (suc start) (repetition-start O (letters z x) start) (omega arith)
 
   -- While the stretch s holds one more copy of its period, it is that of a scan from `start`.
   abbrev pub Remains : ℕ → Stretch → Type (ℓ ⊔ κ)
-  Remains start s = start + s .period ≤ s .end → Stopped O (letters z x) (length x) start s
+  Remains start s = start + s .period ≤ s .end → ScanStopped O (letters z x) (length x) start s
 
   pub stretch-stopped : (start : ℕ) (s : Stretch) → start < length x → Remains start s →
-      Stopped O (letters z x) (length x) start (stretchAt D z x start s)
+      ScanStopped O (letters z x) (length x) start (stretchAt D z x start s)
   stretch-stopped start s l w = go (ltb (s .end) (start + s .period)) refl
     where
       go : (b : Bool) → ltb (s .end) (start + s .period) ≡ b →
-          Stopped O (letters z x) (length x) start (elim b [ true ↦ scanOf D z x start | false ↦ s ])
+          ScanStopped O (letters z x) (length x) start (elim b [ true ↦ scanOf D z x start | false ↦ s ])
       go true e = scan-stopped start l
       go false e = w (ltb-false (s .end) (start + s .period) e)
 
@@ -96,7 +96,7 @@ module _ {ℓ κ} {A : Type ℓ} {O : Letters {ℓ, κ} A} (D : Decided O) (z : 
       go false e rest = omega (arith, ltb-false start (length x) e)
       go true e rest =
           let l : start < length x = ltb-true start (length x) e in
-          let v : Stopped O (letters z x) (length x) start t = stretch-stopped start s l w in
+          let v : ScanStopped O (letters z x) (length x) start t = stretch-stopped start s l w in
           let m : NextSmaller O (letters z x) (length x) start (start + t .period) = stopped-next O (letters z x) (length x) start t v in (
             refl,
             start + t .period,

@@ -2,7 +2,7 @@ pub mod Default
 pub mod Duval
 pub mod DuvalSteps
 pub mod DuvalFactorization
-pub mod Room
+pub mod TextRoom
 pub mod Results
 pub mod Links
 pub mod Answers

@@ -13,10 +13,10 @@ use Rattle.answer.specs.Limits.{maxLength}
 use Rattle.answer.specs.Checks.{written}
 use Rattle.factors.specs.declared.scan.Stretch.{Stretch}
 use Rattle.factors.specs.Default.{defaultOrder, decided-default}
-use Rattle.factors.specs.DuvalFactorization.{Stopped}
+use Rattle.factors.specs.DuvalFactorization.{ScanStopped}
 
 -- The starts of the factors of x are written, and counted.
-pub record Listed (x before after : List ℕ) (count : ℕ) : Type 0 where
+pub record FactorsListed (x before after : List ℕ) (count : ℕ) : Type 0 where
   pub counted : count ≡ length (factorizationOf decided-default x)
   pub content : after ≡ written (factorizationOf decided-default x) before
 
@@ -33,8 +33,8 @@ pub record Startable (x out : List ℕ) (start : ℕ) : Type 0 where
   pub entry : (t : ℕ) → t < start → LongestTo defaultOrder x t (getD out t 0)
 
 -- The scan from `start` has stopped with the stretch s, and the entries up to its end are there.
-pub record Filled (x before after : List ℕ) (start : ℕ) (s : Stretch) : Type 0 where
-  pub stopped : Stopped defaultOrder (letters 0 x) (length x) start s
+pub record TableFilled (x before after : List ℕ) (start : ℕ) (s : Stretch) : Type 0 where
+  pub stopped : ScanStopped defaultOrder (letters 0 x) (length x) start s
   pub table : Tabled x before after (s .end)
 
 -- The factors before `start` are done, and the entries up to the end of the last scan's stretch s are there. While s holds one more copy
@@ -45,7 +45,7 @@ pub record Covered (x out : List ℕ) (start : ℕ) (s : Stretch) : Type 0 where
   pub inside : s .end ≤ length x
   pub small : s .period ≤ maxLength
   pub entry : (t : ℕ) → t < s .end → LongestTo defaultOrder x t (getD out t 0)
-  pub remains : start + s .period ≤ s .end → Stopped defaultOrder (letters 0 x) (length x) start s
+  pub remains : start + s .period ≤ s .end → ScanStopped defaultOrder (letters 0 x) (length x) start s
 
 -- The left forest of x is written.
 pub record Grown (x first first′ past past′ : List ℕ) : Type 0 where

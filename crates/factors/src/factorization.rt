@@ -9,14 +9,14 @@ ghost use lib.ListN.{length};
 ghost use Rattle.words.specs.Compute.Factorization.{factorizationOf};
 ghost use Rattle.answer.specs.Checks.{contentAfter};
 ghost use Rattle.factors.specs.Default.{decided-default};
-ghost use Rattle.factors.specs.Room.{Room};
-ghost use Rattle.factors.specs.Results.{Listed};
+ghost use Rattle.factors.specs.TextRoom.{TextRoom};
+ghost use Rattle.factors.specs.Results.{FactorsListed};
 ghost use Rattle.factors.specs.Answers.{factorizationAnswer};
 
 // Writes the starts of the factors, one a turn, and returns how many there are.
 fn list_factors(text: &[u8], out: &mut [u32]) -> u32
-    requires { ⌜ Room (now text) (now out) ⌝ }
-    ensures content { λ r. ⌜ Listed (now (text .entry)) (now (out .entry)) (now (out .exit)) r ⌝ }
+    requires { ⌜ TextRoom (now text) (now out) ⌝ }
+    ensures content { λ r. ⌜ FactorsListed (now (text .entry)) (now (out .entry)) (now (out .exit)) r ⌝ }
 {
     let mut count: usize = 0;
     let mut start: usize = 0;

@@ -11,7 +11,7 @@ ghost use Rattle.words.specs.Compute.Factorization.{factorizationOf};
 ghost use Rattle.words.specs.Compute.LeftForest.{leftFirstOf, leftPastOf};
 ghost use Rattle.answer.specs.Checks.{contentAfter};
 ghost use Rattle.factors.specs.Default.{decided-default};
-ghost use Rattle.factors.specs.Room.{Room};
+ghost use Rattle.factors.specs.TextRoom.{TextRoom};
 ghost use Rattle.factors.specs.Results.{Grown};
 ghost use Rattle.factors.specs.Answers.{leftForestAnswer};
 ghost use Rattle.factors.specs.Links.{Descends, Linked, Closes, Linkable, Crossed, OwnRoots};
@@ -67,8 +67,8 @@ fn mark_roots(first: &mut [u32], past: &mut [u32], last: usize)
 // Writes the left forest: PAST holds the suffix table until its words have been read.
 fn grow(text: &[u8], first: &mut [u32], past: &mut [u32])
     requires { ⌜ 0 < length (now text) ⌝ }
-    requires { ⌜ Room (now text) (now first) ⌝ }
-    requires { ⌜ Room (now text) (now past) ⌝ }
+    requires { ⌜ TextRoom (now text) (now first) ⌝ }
+    requires { ⌜ TextRoom (now text) (now past) ⌝ }
     ensures content { λ r. ⌜ Grown (now (text .entry)) (now (first .entry)) (now (first .exit)) (now (past .entry)) (now (past .exit)) ⌝ }
 {
     fill_table(text, past);

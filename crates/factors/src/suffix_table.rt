@@ -11,17 +11,17 @@ ghost use lib.ListN.{length};
 ghost use Rattle.words.specs.Compute.SuffixTable.{suffixTableOf};
 ghost use Rattle.answer.specs.Checks.{contentAfter};
 ghost use Rattle.factors.specs.Default.{decided-default};
-ghost use Rattle.factors.specs.Room.{Room};
-ghost use Rattle.factors.specs.Results.{Tabled, Startable, Covered, Filled};
+ghost use Rattle.factors.specs.TextRoom.{TextRoom};
+ghost use Rattle.factors.specs.Results.{Tabled, Startable, Covered, TableFilled};
 ghost use Rattle.factors.specs.Answers.{suffixTableAnswer};
 
 // The scan from `start`, which writes the entry of each position that it reads: behind a greater
 // letter the longest Lyndon word is all that was read, and behind an equal one it is that of the
 // copy before.
 fn fill(text: &[u8], out: &mut [u32], start: usize) -> Stretch
-    requires { ⌜ Room (now text) (now out) ⌝ }
+    requires { ⌜ TextRoom (now text) (now out) ⌝ }
     requires { ⌜ Startable (now text) (now out) start ⌝ }
-    ensures content { λ r. ⌜ Filled (now (text .entry)) (now (out .entry)) (now (out .exit)) start r ⌝ }
+    ensures content { λ r. ⌜ TableFilled (now (text .entry)) (now (out .entry)) (now (out .exit)) start r ⌝ }
 {
     let mut period: usize = 1;
     let mut end = start + 1;
@@ -47,10 +47,10 @@ fn fill(text: &[u8], out: &mut [u32], start: usize) -> Stretch
 
 // Writes the entries up to the end of the stretch in which the factor at `start` lies.
 fn fill_at(text: &[u8], out: &mut [u32], start: usize, s: Stretch) -> Stretch
-    requires { ⌜ Room (now text) (now out) ⌝ }
+    requires { ⌜ TextRoom (now text) (now out) ⌝ }
     requires { ⌜ Covered (now text) (now out) start s ⌝ }
     requires { ⌜ start < length (now text) ⌝ }
-    ensures content { λ r. ⌜ Filled (now (text .entry)) (now (out .entry)) (now (out .exit)) start r ⌝ }
+    ensures content { λ r. ⌜ TableFilled (now (text .entry)) (now (out .entry)) (now (out .exit)) start r ⌝ }
 {
     if s.end < start + s.period {
         fill(text, out, start)
@@ -61,7 +61,7 @@ fn fill_at(text: &[u8], out: &mut [u32], start: usize, s: Stretch) -> Stretch
 
 // Writes the whole table, factor by factor.
 pub(crate) fn fill_table(text: &[u8], out: &mut [u32])
-    requires { ⌜ Room (now text) (now out) ⌝ }
+    requires { ⌜ TextRoom (now text) (now out) ⌝ }
     ensures content { λ r. ⌜ Tabled (now (text .entry)) (now (out .entry)) (now (out .exit)) (length (now (text .entry))) ⌝ }
 {
     let mut start: usize = 0;

@@ -10,7 +10,7 @@ use Rattle.answer.specs.Limits.{maxLetters}
 use Rattle.fasta.specs.declared.bytes.Kind.{Kind}
 use Rattle.fasta.specs.declared.bytes.Kind.the-variants.{Letter, LineEnd, CarriageReturn, HeaderMark, Unfit}
 use Rattle.fasta.specs.declared.lines.Ending.{Ending}
-use Rattle.fasta.specs.declared.lines.Ending.the-variants.{Stopped, NextRecord, Finished}
+use Rattle.fasta.specs.declared.lines.Ending.the-variants.{RefusedAt, NextRecord, Finished}
 use Rattle.fasta.specs.declared.lines.Step.{Step}
 use Rattle.fasta.specs.declared.lines.Step.the-variants.{On, Off}
 use Rattle.fasta.specs.Bytes.{kindOf, letterOf, lineEnd, startsWith}
@@ -22,15 +22,15 @@ afterLine p (b ∷ s) = cond (eqb b lineEnd) (suc p) (afterLine (suc p) s)
 
 -- What a letter at position p does after count letters.
 abbrev pub letterStep : ℕ → ℕ → Step
-letterStep p count = cond (ltb count maxLetters) (On true (suc count)) (Off (Stopped TooManyLetters p))
+letterStep p count = cond (ltb count maxLetters) (On true (suc count)) (Off (RefusedAt TooManyLetters p))
 
 -- What a byte of this kind at position p does, inside a line or at the start of one, after count letters and before the bytes s.
 abbrev pub stepFor : Kind → ℕ → Bool → ℕ → List ℕ → Step
 stepFor Letter p inside count s = letterStep p count
 stepFor LineEnd p inside count s = On false count
-stepFor CarriageReturn p inside count s = cond (startsWith lineEnd s) (On true count) (Off (Stopped UnfitByte p))
-stepFor HeaderMark p inside count s = cond inside (Off (Stopped UnfitByte p)) (Off (NextRecord count p))
-stepFor Unfit p inside count s = Off (Stopped UnfitByte p)
+stepFor CarriageReturn p inside count s = cond (startsWith lineEnd s) (On true count) (Off (RefusedAt UnfitByte p))
+stepFor HeaderMark p inside count s = cond inside (Off (RefusedAt UnfitByte p)) (Off (NextRecord count p))
+stepFor Unfit p inside count s = Off (RefusedAt UnfitByte p)
 
 -- How the sequence lines s end that start at position p, inside a line or at the start of one, after count letters.
 abbrev pub linesFrom : ℕ → Bool → ℕ → List ℕ → Ending

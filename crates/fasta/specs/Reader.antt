@@ -14,19 +14,19 @@ use Rattle.answer.specs.Limits.{maxLetters, maxInput}
 use Rattle.fasta.specs.declared.name.Name.{Name}
 use Rattle.fasta.specs.declared.name.Name.the-variants.{Named, Misnamed}
 use Rattle.fasta.specs.declared.lines.Ending.{Ending}
-use Rattle.fasta.specs.declared.lines.Ending.the-variants.{Stopped, NextRecord, Finished}
+use Rattle.fasta.specs.declared.lines.Ending.the-variants.{RefusedAt, NextRecord, Finished}
 use Rattle.fasta.specs.Bytes.{headerMark, startsWith}
 use Rattle.fasta.specs.Name.{nameFrom}
 use Rattle.fasta.specs.Lines.{afterLine, linesFrom, lettersIn}
 
 -- Refusal 9: byte 0 of a record that starts at p and whose bytes are s.
 abbrev pub headerChecked : ℕ → List ℕ → Ending → Ending
-headerChecked p s rest = cond (startsWith headerMark s) rest (Stopped NoHeader p)
+headerChecked p s rest = cond (startsWith headerMark s) rest (RefusedAt NoHeader p)
 
 -- Refusal 10: the name.
 abbrev pub nameChecked : Name → Ending → Ending
 nameChecked Named rest = rest
-nameChecked (Misnamed position) rest = Stopped BadName position
+nameChecked (Misnamed position) rest = RefusedAt BadName position
 
 -- Where the sequence lines start of the record of x that starts at p: past the line of its name.
 abbrev pub linesStart : List ℕ → ℕ → ℕ
@@ -45,7 +45,7 @@ recordLetters x p = lettersIn (drop (linesStart x p) x)
 
 -- The answer for an input that is one record: another one is refusal 12, and no letter 13.
 abbrev pub answerFor : Ending → Answer
-answerFor (Stopped reason p) = refusedFor reason p
+answerFor (RefusedAt reason p) = refusedFor reason p
 answerFor (NextRecord count p) = refusedFor SecondRecord p
 answerFor (Finished count p) = pickAnswer (eqb count 0) (refusedFor NoLetters p) (acceptedWith count)
 

@@ -36,13 +36,13 @@ fn record_ending(input: &[u8], from: usize) -> Ending
         let name = name_from(input, from + 1);
         match name {
             Name::Named => lines_from(input, after_line(input, from)),
-            Name::Misnamed { position } => Ending::Stopped {
+            Name::Misnamed { position } => Ending::RefusedAt {
                 reason: Reason::BadName,
                 position,
             },
         }
     } else {
-        Ending::Stopped {
+        Ending::RefusedAt {
             reason: Reason::NoHeader,
             position: from as u32,
         }
@@ -54,7 +54,7 @@ fn answer_for(ending: Ending) -> Answer
     ensures answer { λ r. ⌜ r ≡ answerFor ending ⌝ }
 {
     match ending {
-        Ending::Stopped { reason, position } => refused(reason, position),
+        Ending::RefusedAt { reason, position } => refused(reason, position),
         Ending::NextRecord { count: _, position } => refused(Reason::SecondRecord, position),
         Ending::Finished { count, position } => {
             if count == 0 {

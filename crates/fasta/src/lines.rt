@@ -18,7 +18,7 @@ use answer::limits::max_letters;
 // How a record ends.
 pub enum Ending {
     // A byte that a check refuses.
-    Stopped { reason: Reason, position: u32 },
+    RefusedAt { reason: Reason, position: u32 },
     // '>' at a line's start, after `count` letters.
     NextRecord { count: u32, position: u32 },
     // The end of the input, after `count` letters.
@@ -59,7 +59,7 @@ fn letter_step(position: u32, count: u32) -> Step
         }
     } else {
         Step::Off {
-            ending: Ending::Stopped {
+            ending: Ending::RefusedAt {
                 reason: Reason::TooManyLetters,
                 position,
             },
@@ -76,7 +76,7 @@ fn step_at(input: &[u8], at: usize, inside: bool, count: u32) -> Step
     let kind = kind_at(input, at);
     let position = at as u32;
     let unfit = Step::Off {
-        ending: Ending::Stopped {
+        ending: Ending::RefusedAt {
             reason: Reason::UnfitByte,
             position,
         },

@@ -8,7 +8,7 @@ use native.Mathlib.Decide.{decLt, ℕ-discrete}
 use lib.ListN.{length, getD}
 use Rattle.words.specs.ValidArray.{Valid}
 use Rattle.words.specs.Laws.ValidSpans.{Innermost, Unheld, InnermostCase, held, unheld, innermost-case, innermost-is, end-inside}
-use Rattle.from_array.specs.Written.{Holds, Marked}
+use Rattle.from_array.specs.Written.{ValuesHeld, Marked}
 use Rattle.from_array.proofs.Writing.{Stored}
 
 -- The positions below i had their turn and hold g; of the others those hold f that no earlier span holds, or whose innermost span is that
@@ -71,7 +71,7 @@ module _ (f g : ℕ → ℕ) (a before : List ℕ) (valid : Valid a) where
           w .child j k (omega arith) q (omega (arith, d, r)) n
 
   -- After the last turn every position of the array holds g.
-  pub filling-ends : (i : ℕ) (now : List ℕ) → Filling f g a i before now → length a ≤ i → Holds g (length a) before now
+  pub filling-ends : (i : ℕ) (now : List ℕ) → Filling f g a i before now → length a ≤ i → ValuesHeld g (length a) before now
   filling-ends i now w h =
       record { size = w .size; value = λ j p. w .done j (omega arith); rest = w .rest }
 

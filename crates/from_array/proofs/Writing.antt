@@ -14,7 +14,7 @@ use Rattle.words.specs.ValidArray.{Valid}
 use Rattle.words.specs.ArrayForest.{endOf}
 use Rattle.words.specs.Laws.ValidSpans.{Innermost, end-after, end-inside, ends-nest}
 use Rattle.answer.specs.Checks.{written}
-use Rattle.from_array.specs.Written.{Holds, Marked}
+use Rattle.from_array.specs.Written.{ValuesHeld, Marked}
 
 -- After a store at i: the new value at i, the others as they were.
 pub record Stored (i v : ℕ) (before after : List ℕ) : Type 0 where
@@ -31,11 +31,11 @@ stored l i v h =
     }
 
 module _ (f : ℕ → ℕ) (before : List ℕ) where
-  pub holds-none : Holds f 0 before before
+  pub holds-none : ValuesHeld f 0 before before
   holds-none = record { size = refl; value = λ j h. absurd (omega arith); rest = λ j h. refl }
 
   -- One place more.
-  pub holds-more : (i v : ℕ) (l : List ℕ) → Holds f i before l → i < length before → v ≡ f i → Holds f (i + 1) before (set l i v)
+  pub holds-more : (i v : ℕ) (l : List ℕ) → ValuesHeld f i before l → i < length before → v ≡ f i → ValuesHeld f (i + 1) before (set l i v)
   holds-more i v l h p e =
       let s = stored l i v (omega (arith, h .size)) in
       record {
@@ -51,7 +51,7 @@ module _ (f : ℕ → ℕ) (before : List ℕ) where
           subst (λ (w : ℕ). getD (set l i v) w 0 ≡ f w) z (s .here ∙ e)
 
   -- A buffer whose first n places hold the values of f is one into which they were written.
-  pub holds-written : (n : ℕ) (l : List ℕ) → Holds f n before l → n ≤ length before → l ≡ written (tabulate f 0 n) before
+  pub holds-written : (n : ℕ) (l : List ℕ) → ValuesHeld f n before l → n ≤ length before → l ≡ written (tabulate f 0 n) before
   holds-written n l h p = ext-getD 0 l (written t before) size (λ j q. at j (decLt j n))
     where
       t : List ℕ
@@ -76,7 +76,7 @@ module _ (f : ℕ → ℕ) (before : List ℕ) where
           getD-drop (length t) before (j - length t) 0 ∙ ap (λ (k : ℕ). getD before k 0) e)
 
 -- Places written a second time.
-pub holds-after : (f g : ℕ → ℕ) (n : ℕ) (before between after : List ℕ) → Holds f n before between → Holds g n between after → Holds g n before after
+pub holds-after : (f g : ℕ → ℕ) (n : ℕ) (before between after : List ℕ) → ValuesHeld f n before between → ValuesHeld g n between after → ValuesHeld g n before after
 holds-after f g n before between after h k =
     record { size = k .size ∙ h .size; value = k .value; rest = λ j p. k .rest j p ∙ h .rest j p }
 

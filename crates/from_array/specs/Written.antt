@@ -9,13 +9,13 @@ use Rattle.words.specs.Laws.ValidSpans.{Innermost}
 use Rattle.answer.specs.Limits.{maxLength}
 
 -- A valid array of at most 1,048,576 entries, and a buffer that is at least as long.
-pub record Room (a out : List ℕ) : Type 0 where
+pub record ArrayRoom (a out : List ℕ) : Type 0 where
   pub valid : Valid a
   pub short : length a ≤ maxLength
   pub fits : length a ≤ length out
 
 -- The first n places hold the values of f, the others what they held before.
-pub record Holds (f : ℕ → ℕ) (n : ℕ) (before after : List ℕ) : Type 0 where
+pub record ValuesHeld (f : ℕ → ℕ) (n : ℕ) (before after : List ℕ) : Type 0 where
   pub size : length after ≡ length before
   pub value : (j : ℕ) → j < n → getD after j 0 ≡ f j
   pub rest : (j : ℕ) → n ≤ j → getD after j 0 ≡ getD before j 0

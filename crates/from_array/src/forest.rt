@@ -15,13 +15,13 @@ ghost use Rattle.words.specs.ArrayForest.{firstFor, pastFor, forestFirst, fores
 ghost use Rattle.answer.specs.Limits.{maxLength};
 ghost use Rattle.answer.specs.Checks.{contentAfter};
 ghost use Rattle.from_array.specs.Answers.{rightForestAnswer};
-ghost use Rattle.from_array.specs.Written.{Room, Holds};
+ghost use Rattle.from_array.specs.Written.{ArrayRoom, ValuesHeld};
 
 // Every position has itself.
 fn write_own(first: &mut [u32], n: usize)
     requires { ⌜ n ≤ maxLength ⌝ }
     requires { ⌜ n ≤ length (now first) ⌝ }
-    ensures content { λ _. ⌜ Holds (λ j. j) n (now (first .entry)) (now (first .exit)) ⌝ }
+    ensures content { λ _. ⌜ ValuesHeld (λ j. j) n (now (first .entry)) (now (first .exit)) ⌝ }
 {
     let mut k = 0;
     while k < n {
@@ -32,8 +32,8 @@ fn write_own(first: &mut [u32], n: usize)
 
 // FIRST: each position has the one whose span is its innermost, or itself.
 fn write_first(array: &[u32], first: &mut [u32])
-    requires { ⌜ Room (now array) (now first) ⌝ }
-    ensures content { λ _. ⌜ Holds (firstFor (now (array .entry))) (length (now (array .entry))) (now (first .entry)) (now (first .exit)) ⌝ }
+    requires { ⌜ ArrayRoom (now array) (now first) ⌝ }
+    ensures content { λ _. ⌜ ValuesHeld (firstFor (now (array .entry))) (length (now (array .entry))) (now (first .entry)) (now (first .exit)) ⌝ }
 {
     write_own(first, array.len());
     let mut i = 0;
@@ -59,10 +59,10 @@ fn past_at(array: &[u32], first: u32, j: usize) -> u32
 
 // PAST, from FIRST.
 fn write_past(array: &[u32], first: &[u32], past: &mut [u32])
-    requires { ⌜ Room (now array) (now past) ⌝ }
+    requires { ⌜ ArrayRoom (now array) (now past) ⌝ }
     requires { ⌜ length (now array) ≤ length (now first) ⌝ }
     requires { ⌜ ((j : ℕ) → j < length (now array) → getD (now first) j 0 ≡ firstFor (now array) j) ⌝ }
-    ensures content { λ _. ⌜ Holds (pastFor (now (array .entry))) (length (now (array .entry))) (now (past .entry)) (now (past .exit)) ⌝ }
+    ensures content { λ _. ⌜ ValuesHeld (pastFor (now (array .entry))) (length (now (array .entry))) (now (past .entry)) (now (past .exit)) ⌝ }
 {
     let mut j = 0;
     while j < array.len() {

@@ -3,12 +3,12 @@
 use super::entries::end_of;
 ghost use Prim.Native.Nat.{_<_};
 ghost use lib.ListN.{length};
-ghost use Rattle.from_array.specs.Written.{Room, Marked};
+ghost use Rattle.from_array.specs.Written.{ArrayRoom, Marked};
 
 // Writes `value` at each position whose innermost span is that of `i`: `i + 1`, the end of the span
 // there, and so on up to the end of the span at `i`.
 pub(crate) fn mark(array: &[u32], out: &mut [u32], i: usize, value: u32)
-    requires { ⌜ Room (now array) (now out) ⌝ }
+    requires { ⌜ ArrayRoom (now array) (now out) ⌝ }
     requires { ⌜ i < length (now array) ⌝ }
     ensures content { λ _. ⌜ Marked (now (array .entry)) i value (now (out .entry)) (now (out .exit)) ⌝ }
 {

@@ -13,12 +13,12 @@ ghost use lib.ListN.{length};
 ghost use Rattle.words.specs.ValidArray.{letterFor, textFor};
 ghost use Rattle.answer.specs.Checks.{contentAfter};
 ghost use Rattle.from_array.specs.Answers.{reconstructAnswer};
-ghost use Rattle.from_array.specs.Written.{Room, Holds};
+ghost use Rattle.from_array.specs.Written.{ArrayRoom, ValuesHeld};
 
 // Every position has 0: no span is counted yet.
 fn write_zeros(text: &mut [u32], n: usize)
     requires { ⌜ n ≤ length (now text) ⌝ }
-    ensures content { λ _. ⌜ Holds (λ j. 0) n (now (text .entry)) (now (text .exit)) ⌝ }
+    ensures content { λ _. ⌜ ValuesHeld (λ j. 0) n (now (text .entry)) (now (text .exit)) ⌝ }
 {
     let mut j = 0;
     while j < n {
@@ -30,8 +30,8 @@ fn write_zeros(text: &mut [u32], n: usize)
 // The letters. Until a position's turn comes, its place holds the number of earlier positions whose
 // span holds it, once the innermost of them had its turn.
 fn write_letters(array: &[u32], text: &mut [u32])
-    requires { ⌜ Room (now array) (now text) ⌝ }
-    ensures content { λ _. ⌜ Holds (letterFor (now (array .entry))) (length (now (array .entry))) (now (text .entry)) (now (text .exit)) ⌝ }
+    requires { ⌜ ArrayRoom (now array) (now text) ⌝ }
+    ensures content { λ _. ⌜ ValuesHeld (letterFor (now (array .entry))) (length (now (array .entry))) (now (text .entry)) (now (text .exit)) ⌝ }
 {
     let n = array.len();
     write_zeros(text, n);

@@ -9,7 +9,7 @@ use native.Mathlib.Numerals.{add-one}
 use lib.ListN.{drop}
 use Rattle.answer.specs.declared.Reason.the-variants.{NoHeader}
 use Rattle.fasta.specs.declared.lines.Ending.{Ending}
-use Rattle.fasta.specs.declared.lines.Ending.the-variants.{Stopped}
+use Rattle.fasta.specs.declared.lines.Ending.the-variants.{RefusedAt}
 use Rattle.fasta.specs.declared.name.Name.{Name}
 use Rattle.fasta.specs.Bytes.{headerMark, startsWith}
 use Rattle.fasta.specs.Name.{nameFrom}
@@ -27,14 +27,14 @@ with-header :
 with-header x p h e =
     let rest : Ending = linesFrom (linesStart x p) false 0 (drop (linesStart x p) x) in
     sym
-    (ap (λ (t : Bool). cond t (nameChecked (nameFrom (suc p) 0 (drop (suc p) x)) rest) (Stopped NoHeader p)) h
+    (ap (λ (t : Bool). cond t (nameChecked (nameFrom (suc p) 0 (drop (suc p) x)) rest) (RefusedAt NoHeader p)) h
     ∙ ap (λ (m : Name). nameChecked m rest) (rw (add-one p) at e))
 
 -- How it ends, where it has none.
-without-header : (x : List ℕ) (p : ℕ) → startsWith headerMark (drop p x) ≡ false → Stopped NoHeader p ≡ recordEnding x p
+without-header : (x : List ℕ) (p : ℕ) → startsWith headerMark (drop p x) ≡ false → RefusedAt NoHeader p ≡ recordEnding x p
 without-header x p h =
     let rest : Ending = linesFrom (linesStart x p) false 0 (drop (linesStart x p) x) in
-    sym (ap (λ (t : Bool). cond t (nameChecked (nameFrom (suc p) 0 (drop (suc p) x)) rest) (Stopped NoHeader p)) h)
+    sym (ap (λ (t : Bool). cond t (nameChecked (nameFrom (suc p) 0 (drop (suc p) x)) rest) (RefusedAt NoHeader p)) h)
 
 stands-at-requires : tie.Need-stands-at-requires
 stands-at-requires c κs = search needs

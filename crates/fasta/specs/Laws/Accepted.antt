@@ -15,7 +15,7 @@ use Rattle.answer.specs.Answers.{acceptedWith, refusedFor}
 use Rattle.answer.specs.Checks.{pickAnswer, written}
 use Rattle.answer.specs.Limits.{maxLetters, maxInput}
 use Rattle.fasta.specs.declared.lines.Ending.{Ending}
-use Rattle.fasta.specs.declared.lines.Ending.the-variants.{Stopped, NextRecord, Finished}
+use Rattle.fasta.specs.declared.lines.Ending.the-variants.{RefusedAt, NextRecord, Finished}
 use Rattle.fasta.specs.Bytes.{letterOf}
 use Rattle.fasta.specs.Name.{maxName, recordName}
 use Rattle.fasta.specs.Reader.{recordEnding, answerFor, readerAnswer, lettersOf}
@@ -38,7 +38,7 @@ pub record AcceptedInput (x : List ℕ) (count : ℕ) : Type 0 where
 -- An ending that is accepted is the input's end, after some letters.
 finished-accepted :
     (e : Ending) (count : ℕ) → answerFor e .outcome ≡ Accepted count → (q : ℕ) × (e ≡ Finished count q) × (0 < count)
-finished-accepted (Stopped r p) count h = let z : _≡_ {A = ℕ} 0 1 = cc in absurd (omega arith)
+finished-accepted (RefusedAt r p) count h = let z : _≡_ {A = ℕ} 0 1 = cc in absurd (omega arith)
 finished-accepted (NextRecord n p) count h = let z : _≡_ {A = ℕ} 0 1 = cc in absurd (omega arith)
 finished-accepted (Finished n p) count h = go (eqb n 0) refl h
   where

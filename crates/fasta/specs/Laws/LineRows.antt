@@ -17,7 +17,7 @@ use Rattle.answer.specs.Limits.{maxLetters}
 use Rattle.fasta.specs.declared.bytes.Kind.{Kind}
 use Rattle.fasta.specs.declared.bytes.Kind.the-variants.{Letter, LineEnd, CarriageReturn, HeaderMark, Unfit}
 use Rattle.fasta.specs.declared.lines.Ending.{Ending}
-use Rattle.fasta.specs.declared.lines.Ending.the-variants.{Stopped, NextRecord, Finished}
+use Rattle.fasta.specs.declared.lines.Ending.the-variants.{RefusedAt, NextRecord, Finished}
 use Rattle.fasta.specs.declared.lines.Step.the-variants.{On, Off}
 use Rattle.fasta.specs.Bytes.{kindOf, headerMark, lineEnd, carriageReturn, startsWith}
 use Rattle.fasta.specs.Classes.{IsLetter, letter?}
@@ -34,7 +34,7 @@ CleanTo x e p = (k : ℕ) → k < p → (r : Reason) → ¬ LineRow x e r k
 
 -- What an end of the pass says of the lines behind e.
 abbrev pub EndingSays : List ℕ → ℕ → Ending → Type 0
-EndingSays x e (Stopped r p) = LineRow x e r p × CleanTo x e p
+EndingSays x e (RefusedAt r p) = LineRow x e r p × CleanTo x e p
 EndingSays x e (NextRecord c p) = LineRow x e SecondRecord p × CleanTo x e p
 EndingSays x e (Finished c p) = (p ≡ length x) × CleanTo x e p × (c ≡ length (sequenceLetters (take p x) e))
 
@@ -128,7 +128,7 @@ module _ (x : List ℕ) (e p : ℕ) (inside : Bool) (count : ℕ) (within : p < 
     where
       go : (t : Bool) → ltb count maxLetters ≡ t
           → EndingSays x e
-          (elim (cond t (On true (suc count)) (Off (Stopped TooManyLetters p))) [ On i c ↦ linesFrom (suc p) i c (drop (suc p) x) | Off z ↦ z ])
+          (elim (cond t (On true (suc count)) (Off (RefusedAt TooManyLetters p))) [ On i c ↦ linesFrom (suc p) i c (drop (suc p) x) | Off z ↦ z ])
       go true h =
           let few : count < maxLetters = ltb-true count maxLetters h in
           let n : count ≡ length (sequenceLetters (take p x) e) = at .counted in
@@ -145,7 +145,7 @@ module _ (x : List ℕ) (e p : ℕ) (inside : Bool) (count : ℕ) (within : p < 
     where
       go : (t : Bool) → StartSays x (suc p) lineEnd t
           → EndingSays x e
-          (elim (cond t (On true count) (Off (Stopped UnfitByte p))) [ On i c ↦ linesFrom (suc p) i c (drop (suc p) x) | Off z ↦ z ])
+          (elim (cond t (On true count) (Off (RefusedAt UnfitByte p))) [ On i c ↦ linesFrom (suc p) i c (drop (suc p) x) | Off z ↦ z ])
       go true s =
           on true count (behind-other x p (λ c. omega arith))
           (omega (arith, at .counted, letters-same x e p (at .behind) within (λ l. letter-other (getD x p 0) carriageReturn (omega arith) l b)))
@@ -155,7 +155,7 @@ module _ (x : List ℕ) (e p : ℕ) (inside : Bool) (count : ℕ) (within : p < 
     where
       go : (i : Bool) → InsideSays x p i
           → EndingSays x e
-          (elim (cond i (Off (Stopped UnfitByte p)) (Off (NextRecord count p))) [ On i c ↦ linesFrom (suc p) i c (drop (suc p) x) | Off z ↦ z ])
+          (elim (cond i (Off (RefusedAt UnfitByte p)) (Off (NextRecord count p))) [ On i c ↦ linesFrom (suc p) i c (drop (suc p) x) | Off z ↦ z ])
       go true n = (unfit-byte here (mark-inside b n), at .clean)
       go false s = (second-record here b s, at .clean)
   lines-step Unfit n = (unfit-byte here (other-byte (n .0) (n .1) (n .2) (n .3)), at .clean)

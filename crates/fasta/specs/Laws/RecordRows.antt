@@ -12,7 +12,7 @@ use Rattle.answer.specs.declared.Reason.the-variants.{NoHeader, BadName, UnfitB
 use Rattle.fasta.specs.declared.name.Name.{Name}
 use Rattle.fasta.specs.declared.name.Name.the-variants.{Named, Misnamed}
 use Rattle.fasta.specs.declared.lines.Ending.{Ending}
-use Rattle.fasta.specs.declared.lines.Ending.the-variants.{Stopped, NextRecord, Finished}
+use Rattle.fasta.specs.declared.lines.Ending.the-variants.{RefusedAt, NextRecord, Finished}
 use Rattle.fasta.specs.Bytes.{headerMark, startsWith}
 use Rattle.fasta.specs.Name.{nameFrom}
 use Rattle.fasta.specs.Lines.{linesFrom}
@@ -69,7 +69,7 @@ last-only {x} w (no-letters i m) =
 
 -- What an end of a record says of its rows.
 abbrev pub RecordSays : List ℕ → ℕ → Ending → Type 0
-RecordSays x s (Stopped r p) = FirstOf (RecordRow x s) r p
+RecordSays x s (RefusedAt r p) = FirstOf (RecordRow x s) r p
 RecordSays x s (NextRecord c p) = FirstOf (RecordRow x s) SecondRecord p
 RecordSays x s (Finished c p) = ReadToEnd x s c p
 
@@ -129,7 +129,7 @@ module _ (x : List ℕ) (s : ℕ) where
 
     -- What the lines say.
     lines-record : (end : Ending) → EndingSays x e end → RecordSays x s end
-    lines-record (Stopped r p) h = lines-first (h .0) (h .1)
+    lines-record (RefusedAt r p) h = lines-first (h .0) (h .1)
     lines-record (NextRecord c p) h = lines-first (h .0) (h .1)
     lines-record (Finished c p) h = lines-whole (h .0) (h .1) (h .2)
 
@@ -149,7 +149,7 @@ record-says x s h = go (startsWith headerMark (drop s x)) (start-says x s header
     go : (t : Bool) → StartSays x s headerMark t
         → RecordSays x s
         (cond t (nameChecked (nameFrom (suc s) 0 (drop (suc s) x)) (linesFrom (linesStart x s) false 0 (drop (linesStart x s) x)))
-        (Stopped NoHeader s))
+        (RefusedAt NoHeader s))
     go true b =
         let i : s < length x = b .inside in
         named b (nameFrom (suc s) 0 (drop (suc s) x)) (name-says x s (length x - suc s) (omega arith))

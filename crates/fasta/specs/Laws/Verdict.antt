@@ -14,7 +14,7 @@ use Rattle.answer.specs.Answers.{acceptedWith, refusedFor}
 use Rattle.answer.specs.Checks.{pickAnswer}
 use Rattle.answer.specs.Limits.{maxLetters, maxInput}
 use Rattle.fasta.specs.declared.lines.Ending.{Ending}
-use Rattle.fasta.specs.declared.lines.Ending.the-variants.{Stopped, NextRecord, Finished}
+use Rattle.fasta.specs.declared.lines.Ending.the-variants.{RefusedAt, NextRecord, Finished}
 use Rattle.fasta.specs.Reader.{recordEnding, answerFor, readerAnswer}
 use Rattle.fasta.specs.Rows.{sequenceLetters, RecordRow, no-letters, Row, short-buffer, long-input, in-record}
 use Rattle.fasta.specs.Verdict.{EarlierCheck, FirstOf, Refuses, Accepts, HasAnswer}
@@ -67,7 +67,7 @@ module _ (x : List ℕ) (places : ℕ) where
         record { no-row = λ r p. record-only (λ k. n (last-only w k .2)); header-end = w .header-end; ends = w .ends; counted = w .counted }
 
     answer-says : (e : Ending) → RecordSays x 0 e → HasAnswer x places (answerFor e)
-    answer-says (Stopped r p) f = record-first f
+    answer-says (RefusedAt r p) f = record-first f
     answer-says (NextRecord c p) f = record-first f
     answer-says (Finished c p) w = go (eqb c 0) refl
       where

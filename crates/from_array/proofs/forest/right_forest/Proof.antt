@@ -13,7 +13,7 @@ use Rattle.answer.specs.Limits.{maxLength}
 use Rattle.answer.specs.Checks.{outputChecked, content-refused, content-told, content-accepted}
 use Rattle.answer.specs.CheckLaws.{length-empty, length-over, length-passes, output-short, output-passes}
 use Rattle.from_array.specs.Answers.{arrayChecked, rightForestAnswer}
-use Rattle.from_array.specs.Written.{Holds}
+use Rattle.from_array.specs.Written.{ValuesHeld}
 use Rattle.from_array.proofs.Calls.{Accepting, accepting}
 use Rattle.from_array.proofs.Writing.{holds-written}
 use Rattle.from_array.proofs.forest.right_forest.Statement.{statement}
@@ -81,7 +81,7 @@ abbrev told : tie.After-write-first → tie.After-known-told
 told c = c .before .before
 
 wrote-first : (c : tie.After-write-first)
-    → Holds (firstFor (a (start₄ (passed (told c))))) (length (a (start₄ (passed (told c))))) (first (start₄ (passed (told c))))
+    → ValuesHeld (firstFor (a (start₄ (passed (told c))))) (length (a (start₄ (passed (told c))))) (first (start₄ (passed (told c))))
     (c .write-first .last .1 .0)
 wrote-first c = c .write-first .ensures
 

@@ -8,7 +8,7 @@ use native.Mathlib.Omega.{arith}
 use lib.ListN.{length}
 use Rattle.words.specs.ArrayForest.{firstFor}
 use Rattle.words.specs.Laws.ValidSpans.{innermost-is, unheld-is}
-use Rattle.from_array.specs.Written.{Room, Holds, Marked}
+use Rattle.from_array.specs.Written.{ArrayRoom, ValuesHeld, Marked}
 use Rattle.from_array.proofs.Writing.{holds-after}
 use Rattle.from_array.proofs.Filling.{Filling, filling-starts, filling-keeps, filling-goes-on, filling-ends}
 use Rattle.from_array.proofs.forest.write_first.Statement.{statement}
@@ -33,10 +33,10 @@ entry c = at-start c .args .first .now
 abbrev own : tie.After-slice-known2 Inv-loop μ-loop → List ℕ
 own c = c .before .before .write-own .last .0
 
-room : (c : tie.After-slice-known2 Inv-loop μ-loop) → Room (a c) (entry c)
+room : (c : tie.After-slice-known2 Inv-loop μ-loop) → ArrayRoom (a c) (entry c)
 room c = at-start c .pre
 
-own-held : (c : tie.After-slice-known2 Inv-loop μ-loop) → Holds (λ j. j) (length (a c)) (entry c) (own c)
+own-held : (c : tie.After-slice-known2 Inv-loop μ-loop) → ValuesHeld (λ j. j) (length (a c)) (entry c) (own c)
 own-held c = c .before .before .write-own .ensures
 
 write-own-requires : tie.Need-write-own-requires Inv-loop μ-loop

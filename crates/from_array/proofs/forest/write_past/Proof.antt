@@ -6,13 +6,13 @@ use Prim.Native.Nat.{ℕ, _-_, _<_, _≤_}
 use native.Mathlib.Omega.{arith}
 use lib.ListN.{length}
 use Rattle.words.specs.ArrayForest.{pastFor}
-use Rattle.from_array.specs.Written.{Room, Holds}
+use Rattle.from_array.specs.Written.{ArrayRoom, ValuesHeld}
 use Rattle.from_array.proofs.Writing.{holds-none, holds-more}
 use Rattle.from_array.proofs.forest.write_past.Statement.{statement}
 use Rattle.from_array.proofs.forest.write_past.Tie as tie
 
 abbrev Inv-loop : tie.InvT-loop
-Inv-loop array first past₀ j₀ past j = Holds (pastFor array) j past₀ past × (j ≤ length array)
+Inv-loop array first past₀ j₀ past j = ValuesHeld (pastFor array) j past₀ past × (j ≤ length array)
 
 abbrev μ-loop : tie.MeasureT-loop
 μ-loop array first past₀ j₀ past j = length array - j
@@ -27,7 +27,7 @@ a c = at-start c .args .array .now
 abbrev entry : tie.After-slice-known Inv-loop μ-loop → List ℕ
 entry c = at-start c .args .past .now
 
-room : (c : tie.After-slice-known Inv-loop μ-loop) → Room (a c) (entry c)
+room : (c : tie.After-slice-known Inv-loop μ-loop) → ArrayRoom (a c) (entry c)
 room c = at-start c .pre .0
 
 -- A position of the array is one of both buffers.
@@ -81,7 +81,7 @@ returns : tie.Need-returns Inv-loop μ-loop
 returns c =
     let w = c .before .before in
     let e : c .before .loop .j ≡ length (a w) = omega (arith, c .loop-test .left, c .before .loop .inv .1) in
-    subst (λ (k : ℕ). Holds (pastFor (a w)) k (entry w) (c .before .loop .past)) e (c .before .loop .inv .0)
+    subst (λ (k : ℕ). ValuesHeld (pastFor (a w)) k (entry w) (c .before .loop .past)) e (c .before .loop .inv .0)
 
 pub write-past-spec : {M : Type 1} → statement M
 write-past-spec =

@@ -9,7 +9,7 @@ use lib.ListN.{length, getD, set}
 use Rattle.words.specs.ValidArray.{holding, letterFor}
 use Rattle.words.specs.Laws.ValidSpans.{end-inside}
 use Rattle.words.specs.Laws.ValidText.{depth-at-most, depth-of-root, depth-of-child, letter-below}
-use Rattle.from_array.specs.Written.{Room, Holds, Marked}
+use Rattle.from_array.specs.Written.{ArrayRoom, ValuesHeld, Marked}
 use Rattle.from_array.proofs.Writing.{Stored, stored, holds-after}
 use Rattle.from_array.proofs.Filling.{Filling, filling-starts, filling-here, filling-goes-on, filling-ends}
 use Rattle.from_array.proofs.text.write_letters.Statement.{statement}
@@ -38,10 +38,10 @@ entry c = at-start c .args .text .now
 abbrev zeros : tie.After-slice-known2 Inv-loop μ-loop → List ℕ
 zeros c = c .before .before .write-zeros .last .0
 
-room : (c : tie.After-slice-known2 Inv-loop μ-loop) → Room (a c) (entry c)
+room : (c : tie.After-slice-known2 Inv-loop μ-loop) → ArrayRoom (a c) (entry c)
 room c = at-start c .pre
 
-zeros-held : (c : tie.After-slice-known2 Inv-loop μ-loop) → Holds (λ j. 0) (length (a c)) (entry c) (zeros c)
+zeros-held : (c : tie.After-slice-known2 Inv-loop μ-loop) → ValuesHeld (λ j. 0) (length (a c)) (entry c) (zeros c)
 zeros-held c = c .before .before .write-zeros .ensures
 
 -- In a turn: the position, the text, and what it holds there.

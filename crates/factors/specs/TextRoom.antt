@@ -6,6 +6,6 @@ use lib.ListN.{length}
 use Rattle.answer.specs.Limits.{maxLength}
 
 -- The text is no longer than the limit, and the buffer has a place for each letter.
-pub record Room (text out : List ℕ) : Type 0 where
+pub record TextRoom (text out : List ℕ) : Type 0 where
   pub short : length text ≤ maxLength
   pub places : length text ≤ length out
