@@ -50,7 +50,8 @@ fn declares(text: &str, name: &str) -> bool {
         let line = line.split("--").next().unwrap();
         let words: Vec<&str> = line.split(|c: char| c.is_whitespace() || "(){}<>:,;=".contains(c)).filter(|w| !w.is_empty()).collect();
         let marks = words.iter().take_while(|w| MARKS.contains(w)).count();
-        let listed = line.starts_with("  ") && line.contains(':') && words.contains(&name);
+        let before = line.split(':').next().unwrap();
+        let listed = line.starts_with("  ") && line.contains(':') && before.split_whitespace().any(|w| w == name);
         words.get(marks) == Some(&name) && (marks > 0 || line.contains(':') || line.contains('{')) || listed
     })
 }
