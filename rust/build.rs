@@ -10,12 +10,9 @@ fn main() {
     };
     let archive = folder.join("liblyndon.a");
     println!("cargo:rerun-if-changed={}", archive.display());
-    let Ok(folder) = folder.canonicalize().map(|folder| folder.display().to_string()) else {
-        panic!("{} is missing: run `make lib` in the project's root, or name the library's folder by LYNDON_LIB_DIR", archive.display());
-    };
     if !archive.exists() {
         panic!("{} is missing: run `make lib` in the project's root, or name the library's folder by LYNDON_LIB_DIR", archive.display());
     }
-    println!("cargo:rustc-link-search=native={folder}");
+    println!("cargo:rustc-link-search=native={}", folder.canonicalize().unwrap().display());
     println!("cargo:rustc-link-lib=static=lyndon");
 }
