@@ -60,11 +60,10 @@ pub fn compare<T: Filler>(what: &str, got: Result<usize, Error>, buffers: &[&[T]
         let kept = match (wanted.is_ok(), written.get(b)) {
             (false, _) => 0,
             (true, Some(Some(front))) => {
-                assert!(
-                    buffer.len() >= front.len() && buffer[..front.len()] == **front,
-                    "buffer {b} of {what}: {:?}, expected {front:?}",
-                    &buffer[..front.len().min(buffer.len())]
-                );
+                assert!(buffer.len() >= front.len(), "buffer {b} of {what} is too short for what is expected");
+                if let Some(i) = front.iter().zip(buffer.iter()).position(|(wanted, got)| wanted != got) {
+                    panic!("buffer {b} of {what}: place {i} is {:?}, expected {:?}", buffer[i], front[i]);
+                }
                 front.len()
             }
             (true, _) => continue,
