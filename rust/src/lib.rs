@@ -138,7 +138,7 @@ pub fn lyndon_array(text: &[u8], order: Order) -> Result<Vec<u32>, Error> {
 ///
 /// # Errors
 ///
-/// Refuses an empty text (refusal 1) and one of more than [`MAX_LENGTH`] letters (2); so where `out` is too short (4).
+/// Refuses an empty text (refusal 1) and one of more than [`MAX_LENGTH`] letters (2); also where `out` is too short (4).
 ///
 /// ```
 /// use lyndon::{lyndon_array_into, Order};
@@ -171,7 +171,7 @@ pub fn lyndon_array_u32(text: &[u32], order: Order) -> Result<Vec<u32>, Error> {
 ///
 /// # Errors
 ///
-/// Refuses an empty text (refusal 1) and one of more than [`MAX_LENGTH`] letters (2); so where `out` is too short (4).
+/// Refuses an empty text (refusal 1) and one of more than [`MAX_LENGTH`] letters (2); also where `out` is too short (4).
 pub fn lyndon_array_u32_into(text: &[u32], order: Order, out: &mut [u32]) -> Result<usize, Error> {
     counted(ffi::array_u32(text, order.number(), out))
 }
@@ -194,7 +194,7 @@ pub fn factorization(text: &[u8]) -> Result<Vec<u32>, Error> {
 ///
 /// # Errors
 ///
-/// Refuses an empty text (refusal 1) and one of more than [`MAX_LENGTH`] letters (2); so where `out` is too short (4).
+/// Refuses an empty text (refusal 1) and one of more than [`MAX_LENGTH`] letters (2); also where `out` is too short (4).
 ///
 /// ```
 /// let mut out = [9; 4];
@@ -224,7 +224,7 @@ pub fn suffix_table(text: &[u8]) -> Result<Vec<u32>, Error> {
 ///
 /// # Errors
 ///
-/// Refuses an empty text (refusal 1) and one of more than [`MAX_LENGTH`] letters (2); so where `out` is too short (4).
+/// Refuses an empty text (refusal 1) and one of more than [`MAX_LENGTH`] letters (2); also where `out` is too short (4).
 pub fn suffix_table_into(text: &[u8], out: &mut [u32]) -> Result<usize, Error> {
     counted(ffi::suffix_table(text, out))
 }
@@ -250,7 +250,7 @@ pub fn left_forest(text: &[u8]) -> Result<Forest, Error> {
 ///
 /// # Errors
 ///
-/// Refuses an empty text (refusal 1) and one of more than [`MAX_LENGTH`] letters (2); so where a buffer is too short (4).
+/// Refuses an empty text (refusal 1) and one of more than [`MAX_LENGTH`] letters (2); also where a buffer is too short (4).
 pub fn left_forest_into(text: &[u8], first: &mut [u32], past: &mut [u32]) -> Result<usize, Error> {
     counted(ffi::left_forest(text, first, past))
 }
@@ -277,7 +277,7 @@ pub fn right_forest(array: &[u32]) -> Result<Forest, Error> {
 ///
 /// # Errors
 ///
-/// Refuses an empty array (refusal 1), one of more than [`MAX_LENGTH`] entries (2), and one that no text has (6, 7, 8); so where a buffer
+/// Refuses an empty array (refusal 1), one of more than [`MAX_LENGTH`] entries (2), and one that no text has (6, 7, 8); also where a buffer
 /// is too short (4).
 pub fn right_forest_into(array: &[u32], first: &mut [u32], past: &mut [u32]) -> Result<usize, Error> {
     counted(ffi::right_forest(array, first, past))
@@ -303,7 +303,7 @@ pub fn reconstruct(array: &[u32]) -> Result<Vec<u32>, Error> {
 ///
 /// # Errors
 ///
-/// Refuses an empty array (refusal 1), one of more than [`MAX_LENGTH`] entries (2), and one that no text has (6, 7, 8); so where `text`
+/// Refuses an empty array (refusal 1), one of more than [`MAX_LENGTH`] entries (2), and one that no text has (6, 7, 8); also where `text`
 /// is too short (4).
 pub fn reconstruct_into(array: &[u32], text: &mut [u32]) -> Result<usize, Error> {
     counted(ffi::reconstruct(array, text))
@@ -332,7 +332,7 @@ pub fn runs(text: &[u8]) -> Result<Vec<Run>, Error> {
 ///
 /// # Errors
 ///
-/// Refuses an empty text (refusal 1) and one of more than [`MAX_LENGTH`] letters (2); so where `list` (4) or `work` (5) is too short.
+/// Refuses an empty text (refusal 1) and one of more than [`MAX_LENGTH`] letters (2); also where `list` (4) or `work` (5) is too short.
 ///
 /// ```
 /// let (mut work, mut list) = ([0; 6], [0; 18]);
@@ -359,7 +359,7 @@ pub fn listed(numbers: &[u32]) -> impl Iterator<Item = Run> + '_ {
 ///
 /// # Errors
 ///
-/// Refuses an input that is no record of these limits (refusals 9 to 15).
+/// Refuses an input that is not one record within the limits (refusals 9 to 15).
 ///
 /// ```
 /// assert_eq!(lyndon::read_fasta(b">m1 a name\nACgt\r\nNN\n")?, b"ACgtNN");
@@ -378,7 +378,7 @@ pub fn read_fasta(input: &[u8]) -> Result<Vec<u8>, Error> {
 ///
 /// # Errors
 ///
-/// Refuses an input that is no record of these limits (refusals 9 to 15); so where `letters` is too short (4).
+/// Refuses an input that is not one record within the limits (refusals 9 to 15); also where `letters` is too short (4).
 pub fn read_fasta_into(input: &[u8], letters: &mut [u8]) -> Result<usize, Error> {
     counted(ffi::read_fasta(input, letters))
 }
