@@ -1,15 +1,18 @@
-//! Links the static library that `make lib` writes.
-use std::path::Path;
+//! Links the static library, liblyndon.a: from the folder that `LYNDON_LIB_DIR` names, else from where `make lib` writes it.
+use std::path::{Path, PathBuf};
 
 fn main() {
-    let root = Path::new(env!("CARGO_MANIFEST_DIR")).join("..");
-    let folder = root.join("target/lib");
+    println!("cargo:rerun-if-env-changed=LYNDON_LIB_DIR");
+    println!("cargo:rerun-if-changed=build.rs");
+    let folder = match std::env::var_os("LYNDON_LIB_DIR") {
+        Some(folder) => PathBuf::from(folder),
+        None => Path::new(env!("CARGO_MANIFEST_DIR")).join("../target/lib"),
+    };
     let archive = folder.join("liblyndon.a");
     println!("cargo:rerun-if-changed={}", archive.display());
-    println!("cargo:rerun-if-changed=build.rs");
     if !archive.exists() {
-        panic!("{} is missing: run `make lib` in the project's root first", archive.display());
+        panic!("{} is missing: run `make lib` in the project's root, or name the library's folder by LYNDON_LIB_DIR", archive.display());
     }
-    println!("cargo:rustc-link-search=native={}", folder.display());
+    println!("cargo:rustc-link-search=native={}", folder.canonicalize().unwrap().display());
     println!("cargo:rustc-link-lib=static=lyndon");
 }

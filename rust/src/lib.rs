@@ -119,6 +119,10 @@ fn forest(n: usize, call: impl FnOnce(&mut [u32], &mut [u32]) -> Result<usize, E
 
 /// The Lyndon array of a text of bytes: entry `i` is the length of the longest Lyndon word that starts at `i`.
 ///
+/// # Errors
+///
+/// Refuses an empty text (refusal 1) and one of more than [`MAX_LENGTH`] letters (2).
+///
 /// ```
 /// use lyndon::{lyndon_array, Order};
 /// assert_eq!(lyndon_array(b"ba", Order::Rising)?, [1, 1]);
@@ -130,7 +134,11 @@ pub fn lyndon_array(text: &[u8], order: Order) -> Result<Vec<u32>, Error> {
     filled(text.len(), |out| lyndon_array_into(text, order, out))
 }
 
-/// [`lyndon_array`] into a buffer of at least `n` places. The count is `n`. Refusals 1, 2, 4.
+/// [`lyndon_array`] into a buffer of at least `n` places. The count is `n`.
+///
+/// # Errors
+///
+/// Refuses an empty text (refusal 1) and one of more than [`MAX_LENGTH`] letters (2); also where `out` is too short (4).
 ///
 /// ```
 /// use lyndon::{lyndon_array_into, Order};
@@ -146,6 +154,10 @@ pub fn lyndon_array_into(text: &[u8], order: Order, out: &mut [u32]) -> Result<u
 
 /// The Lyndon array of a text of 32-bit letters.
 ///
+/// # Errors
+///
+/// Refuses an empty text (refusal 1) and one of more than [`MAX_LENGTH`] letters (2).
+///
 /// ```
 /// use lyndon::{lyndon_array_u32, Order};
 /// assert_eq!(lyndon_array_u32(&[70_000, 1, 70_000], Order::Rising)?, [1, 2, 1]);
@@ -155,12 +167,20 @@ pub fn lyndon_array_u32(text: &[u32], order: Order) -> Result<Vec<u32>, Error> {
     filled(text.len(), |out| lyndon_array_u32_into(text, order, out))
 }
 
-/// [`lyndon_array_u32`] into a buffer of at least `n` places. The count is `n`. Refusals 1, 2, 4.
+/// [`lyndon_array_u32`] into a buffer of at least `n` places. The count is `n`.
+///
+/// # Errors
+///
+/// Refuses an empty text (refusal 1) and one of more than [`MAX_LENGTH`] letters (2); also where `out` is too short (4).
 pub fn lyndon_array_u32_into(text: &[u32], order: Order, out: &mut [u32]) -> Result<usize, Error> {
     counted(ffi::array_u32(text, order.number(), out))
 }
 
 /// The starts of the factors of the Lyndon factorization: each factor is a Lyndon word and none is smaller than the next.
+///
+/// # Errors
+///
+/// Refuses an empty text (refusal 1) and one of more than [`MAX_LENGTH`] letters (2).
 ///
 /// ```
 /// assert_eq!(lyndon::factorization(b"abbababaababbaba")?, [0, 3, 5, 7, 15]);
@@ -170,7 +190,11 @@ pub fn factorization(text: &[u8]) -> Result<Vec<u32>, Error> {
     filled(text.len(), |out| factorization_into(text, out))
 }
 
-/// [`factorization`] into a buffer of at least `n` places. The count is the number of factors. Refusals 1, 2, 4.
+/// [`factorization`] into a buffer of at least `n` places. The count is the number of factors.
+///
+/// # Errors
+///
+/// Refuses an empty text (refusal 1) and one of more than [`MAX_LENGTH`] letters (2); also where `out` is too short (4).
 ///
 /// ```
 /// let mut out = [9; 4];
@@ -184,6 +208,10 @@ pub fn factorization_into(text: &[u8], out: &mut [u32]) -> Result<usize, Error> 
 
 /// The Lyndon suffix table: entry `j` is the length of the longest Lyndon word that ends at `j`.
 ///
+/// # Errors
+///
+/// Refuses an empty text (refusal 1) and one of more than [`MAX_LENGTH`] letters (2).
+///
 /// ```
 /// assert_eq!(lyndon::suffix_table(b"babbababbaabb")?, [1, 1, 2, 3, 1, 2, 1, 2, 5, 1, 1, 3, 4]);
 /// # Ok::<(), lyndon::Error>(())
@@ -192,13 +220,21 @@ pub fn suffix_table(text: &[u8]) -> Result<Vec<u32>, Error> {
     filled(text.len(), |out| suffix_table_into(text, out))
 }
 
-/// [`suffix_table`] into a buffer of at least `n` places. The count is `n`. Refusals 1, 2, 4.
+/// [`suffix_table`] into a buffer of at least `n` places. The count is `n`.
+///
+/// # Errors
+///
+/// Refuses an empty text (refusal 1) and one of more than [`MAX_LENGTH`] letters (2); also where `out` is too short (4).
 pub fn suffix_table_into(text: &[u8], out: &mut [u32]) -> Result<usize, Error> {
     counted(ffi::suffix_table(text, out))
 }
 
 /// The left Lyndon forest: each factor of two letters or more is cut as `u·v`, `u` its longest proper Lyndon prefix, and `u` and `v`
 /// likewise.
+///
+/// # Errors
+///
+/// Refuses an empty text (refusal 1) and one of more than [`MAX_LENGTH`] letters (2).
 ///
 /// ```
 /// let forest = lyndon::left_forest(b"aabb")?;
@@ -210,13 +246,21 @@ pub fn left_forest(text: &[u8]) -> Result<Forest, Error> {
     forest(text.len(), |first, past| left_forest_into(text, first, past))
 }
 
-/// [`left_forest`] into two buffers of at least `n` places each. The count is `n`. Refusals 1, 2, 4.
+/// [`left_forest`] into two buffers of at least `n` places each. The count is `n`.
+///
+/// # Errors
+///
+/// Refuses an empty text (refusal 1) and one of more than [`MAX_LENGTH`] letters (2); also where a buffer is too short (4).
 pub fn left_forest_into(text: &[u8], first: &mut [u32], past: &mut [u32]) -> Result<usize, Error> {
     counted(ffi::left_forest(text, first, past))
 }
 
 /// The right Lyndon forest of every text that has this Lyndon array: each factor of two letters or more is cut as `u·v`, `v` its longest
 /// proper Lyndon suffix, and `u` and `v` likewise.
+///
+/// # Errors
+///
+/// Refuses an empty array (refusal 1), one of more than [`MAX_LENGTH`] entries (2), and one that no text has (6, 7, 8).
 ///
 /// ```
 /// use lyndon::{lyndon_array, right_forest, Order};
@@ -229,13 +273,21 @@ pub fn right_forest(array: &[u32]) -> Result<Forest, Error> {
     forest(array.len(), |first, past| right_forest_into(array, first, past))
 }
 
-/// [`right_forest`] into two buffers of at least `n` places each. The count is `n`. Refusals 1, 2, 4, and 6, 7, 8 for an array that no
-/// text has.
+/// [`right_forest`] into two buffers of at least `n` places each. The count is `n`.
+///
+/// # Errors
+///
+/// Refuses an empty array (refusal 1), one of more than [`MAX_LENGTH`] entries (2), and one that no text has (6, 7, 8); also where a buffer
+/// is too short (4).
 pub fn right_forest_into(array: &[u32], first: &mut [u32], past: &mut [u32]) -> Result<usize, Error> {
     counted(ffi::right_forest(array, first, past))
 }
 
 /// A text of 32-bit letters that has this Lyndon array; each of the letters 0 to n − 1 is used once.
+///
+/// # Errors
+///
+/// Refuses an empty array (refusal 1), one of more than [`MAX_LENGTH`] entries (2), and one that no text has (6, 7, 8).
 ///
 /// ```
 /// assert_eq!(lyndon::reconstruct(&[2, 1, 5, 2, 1, 2, 1, 3, 2, 1])?, [8, 9, 3, 6, 7, 4, 5, 0, 1, 2]);
@@ -247,12 +299,21 @@ pub fn reconstruct(array: &[u32]) -> Result<Vec<u32>, Error> {
     filled(array.len(), |out| reconstruct_into(array, out))
 }
 
-/// [`reconstruct`] into a buffer of at least `n` places. The count is `n`. Refusals 1, 2, 4, and 6, 7, 8 for an array that no text has.
+/// [`reconstruct`] into a buffer of at least `n` places. The count is `n`.
+///
+/// # Errors
+///
+/// Refuses an empty array (refusal 1), one of more than [`MAX_LENGTH`] entries (2), and one that no text has (6, 7, 8); also where `text`
+/// is too short (4).
 pub fn reconstruct_into(array: &[u32], text: &mut [u32]) -> Result<usize, Error> {
     counted(ffi::reconstruct(array, text))
 }
 
 /// All runs of a text, by start and then by last position.
+///
+/// # Errors
+///
+/// Refuses an empty text (refusal 1) and one of more than [`MAX_LENGTH`] letters (2).
 ///
 /// ```
 /// use lyndon::{runs, Run};
@@ -268,7 +329,10 @@ pub fn runs(text: &[u8]) -> Result<Vec<Run>, Error> {
 
 /// [`runs`] into a list of at least `6 n` places: start, last position and period of each run; [`listed`] reads them. The count is the
 /// number of runs. The work buffer has at least `2 n` places, and afterwards holds the rising Lyndon array and then the falling one.
-/// Refusals 1, 2, 4 (list), 5 (work).
+///
+/// # Errors
+///
+/// Refuses an empty text (refusal 1) and one of more than [`MAX_LENGTH`] letters (2); also where `list` (4) or `work` (5) is too short.
 ///
 /// ```
 /// let (mut work, mut list) = ([0; 6], [0; 18]);
@@ -293,6 +357,10 @@ pub fn listed(numbers: &[u32]) -> impl Iterator<Item = Run> + '_ {
 
 /// The letters of a FASTA input of one record, kept as they are.
 ///
+/// # Errors
+///
+/// Refuses an input that is not one record within the limits (refusals 9 to 15).
+///
 /// ```
 /// assert_eq!(lyndon::read_fasta(b">m1 a name\nACgt\r\nNN\n")?, b"ACgtNN");
 /// let error = lyndon::read_fasta(b">m1\nAC-GT\n").unwrap_err();
@@ -306,7 +374,11 @@ pub fn read_fasta(input: &[u8]) -> Result<Vec<u8>, Error> {
     Ok(letters)
 }
 
-/// [`read_fasta`] into a buffer of at least 2,048 places. The count is the number of letters. Refusals 4 and 9 to 15.
+/// [`read_fasta`] into a buffer of at least 2,048 places. The count is the number of letters.
+///
+/// # Errors
+///
+/// Refuses an input that is not one record within the limits (refusals 9 to 15); also where `letters` is too short (4).
 pub fn read_fasta_into(input: &[u8], letters: &mut [u8]) -> Result<usize, Error> {
     counted(ffi::read_fasta(input, letters))
 }

@@ -383,10 +383,7 @@ fn inputs_at_the_limits() {
 
 #[test]
 fn listings() {
-    let Some(program) = common::lister::program() else {
-        println!("there is no crate repeats yet: listings are not compared");
-        return;
-    };
+    let program = common::lister::program();
     let mut numbers = Numbers::new(8);
     for round in 0..300 {
         let mut input = valid_input(&mut numbers);
@@ -407,7 +404,7 @@ fn listings() {
 // Long texts
 
 /// Every call on one long text, held to other methods.
-fn check_long(name: &str, x: &[u8], with_runs: bool) {
+fn check_long(name: &str, x: &[u8], runs: fn(&[u8]) -> Vec<u32>) {
     let n = x.len();
     let mut out = room(n + SPARE);
     let arrays: Vec<Vec<u32>> = [0, 1].iter().map(|&order| faster::array(order, x)).collect();
@@ -431,12 +428,10 @@ fn check_long(name: &str, x: &[u8], with_runs: bool) {
     for a in &arrays {
         check_long_array(name, a);
     }
-    if with_runs {
-        let want = faster::runs(x);
-        let (mut work, mut list) = (room(2 * n + SPARE), room(6 * n + SPARE));
-        let got = common::runs(x, &mut work, &mut list);
-        common::compare(&format!("runs, {name}"), got, &[&work, &list], Ok(want.len() / 3), &[Some(&arrays.concat()), Some(&want)]);
-    }
+    let want = runs(x);
+    let (mut work, mut list) = (room(2 * n + SPARE), room(6 * n + SPARE));
+    let got = common::runs(x, &mut work, &mut list);
+    common::compare(&format!("runs, {name}"), got, &[&work, &list], Ok(want.len() / 3), &[Some(&arrays.concat()), Some(&want)]);
 }
 
 /// The calls that take an array, held to other methods.
@@ -470,6 +465,7 @@ fn other_methods_agree_with_the_definitions() {
         let (first, past) = definitions::left_forest(&x);
         assert_eq!(faster::suffix_table_and_left_forest(&x), (definitions::suffix_table(&x), first, past));
         assert_eq!(faster::runs(&x), definitions::runs(&x));
+        assert_eq!(faster::runs_by_extensions(&x), definitions::runs(&x));
         let a = definitions::array(0, &x);
         assert_eq!(faster::right_forest(&a), definitions::right_forest(&x));
         assert_eq!(faster::text_for(&a), definitions::text_for(&a));
@@ -493,22 +489,34 @@ fn texts_of_some_hundred_letters() {
                 common::two_powers(&w, n)
             }
         };
-        check_long("a text of some hundred letters", &x, true);
+        check_long("a text of some hundred letters", &x, faster::runs);
     }
 }
 
 #[test]
 fn hard_families_of_10_000_letters() {
     for (name, x) in common::families(10_000) {
-        check_long(&name, &x, true);
+        check_long(&name, &x, faster::runs);
     }
 }
 
 #[test]
 fn families_of_100_000_letters() {
     for (name, x) in common::families(100_000) {
-        check_long(&name, &x, name == "fibonacci" || name == "dna, gaps and repeats");
+        check_long(&name, &x, faster::runs_by_extensions);
     }
+}
+
+/// Texts of the largest length.
+#[test]
+fn longest_fibonacci() {
+    check_long("longest, fibonacci", &common::fibonacci(lyndon::MAX_LENGTH), faster::runs_by_extensions);
+}
+
+#[test]
+fn longest_random() {
+    let x = Numbers::new(14).text(b"ACGT", lyndon::MAX_LENGTH);
+    check_long("longest, random", &x, faster::runs_by_extensions);
 }
 
 #[test]

@@ -161,9 +161,7 @@ fn the_listing_of_the_specification() {
     let want = b"m1\t0\t2\tp1\nm1\t0\t6\tp3\nm1\t3\t5\tp1\n";
     let input = b">m1\naabaab\n";
     assert_eq!(definitions::listing(input, definitions::runs), want);
-    if let Some(program) = common::lister::program() {
-        assert_eq!(common::lister::run(&program, input), want);
-    }
+    assert_eq!(common::lister::run(&common::lister::program(), input), want);
 }
 
 #[test]

@@ -1,26 +1,32 @@
 //! The program `repeats`, run on an input.
 use std::io::Write;
-use std::path::PathBuf;
-use std::process::{Command, Stdio};
+use std::path::{Path, PathBuf};
+use std::process::{Command, Output, Stdio};
 
-fn root() -> PathBuf {
-    PathBuf::from(env!("CARGO_MANIFEST_DIR")).join("..")
+/// The project's folder.
+pub fn root() -> PathBuf {
+    PathBuf::from(env!("CARGO_MANIFEST_DIR")).join("..").canonicalize().unwrap()
 }
 
-/// Where the program is; absent only while the project has no crate for it.
-pub fn program() -> Option<PathBuf> {
+/// Where the program is.
+pub fn program() -> PathBuf {
     let program = root().join("target/bin/repeats");
-    if program.exists() {
-        return Some(program);
-    }
-    assert!(!root().join("crates/repeats").exists(), "target/bin/repeats is missing: run `rt check repeats` first");
-    None
+    assert!(program.exists(), "target/bin/repeats is missing: run `rt check repeats` first");
+    program
 }
 
-/// What it writes to standard output.
-pub fn run(program: &PathBuf, input: &[u8]) -> Vec<u8> {
-    let mut child = Command::new(program).stdin(Stdio::piped()).stdout(Stdio::piped()).spawn().unwrap();
+/// What comes of a command that is given an input.
+pub fn output(command: &mut Command, input: &[u8]) -> Output {
+    let mut child = command.stdin(Stdio::piped()).stdout(Stdio::piped()).stderr(Stdio::piped()).spawn().unwrap();
     // A program that has read enough may close its input; that is no fault here.
     let _ = child.stdin.take().unwrap().write_all(input);
-    child.wait_with_output().unwrap().stdout
+    child.wait_with_output().unwrap()
+}
+
+/// What the program writes to standard output. It ends well, and says nothing on standard error.
+pub fn run(program: &Path, input: &[u8]) -> Vec<u8> {
+    let output = output(&mut Command::new(program), input);
+    assert!(output.status.success(), "{}", output.status);
+    assert_eq!(String::from_utf8_lossy(&output.stderr), "");
+    output.stdout
 }

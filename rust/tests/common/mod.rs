@@ -60,11 +60,10 @@ pub fn compare<T: Filler>(what: &str, got: Result<usize, Error>, buffers: &[&[T]
         let kept = match (wanted.is_ok(), written.get(b)) {
             (false, _) => 0,
             (true, Some(Some(front))) => {
-                assert!(
-                    buffer.len() >= front.len() && buffer[..front.len()] == **front,
-                    "buffer {b} of {what}: {:?}, expected {front:?}",
-                    &buffer[..front.len().min(buffer.len())]
-                );
+                assert!(buffer.len() >= front.len(), "buffer {b} of {what} is too short for what is expected");
+                if let Some(i) = front.iter().zip(buffer.iter()).position(|(wanted, got)| wanted != got) {
+                    panic!("buffer {b} of {what}: place {i} is {:?}, expected {:?}", buffer[i], front[i]);
+                }
                 front.len()
             }
             (true, _) => continue,
@@ -87,59 +86,67 @@ pub fn compare_all<T: Filler>(what: &str, got: Result<usize, Error>, buffers: &[
     }
 }
 
+/// Makes a call, and holds its input to what it was before.
+fn kept<T: Copy + PartialEq>(input: &[T], call: impl FnOnce() -> Result<usize, Error>) -> Result<usize, Error> {
+    let before = input.to_vec();
+    let got = call();
+    assert!(std::hint::black_box(input) == before, "a call has changed its input");
+    got
+}
+
 /// The array by any order number: through the crate where it has a name for the number, else by the C interface itself.
 pub fn array8(text: &[u8], order: u32, out: &mut [u32]) -> Result<usize, Error> {
     fill(out);
-    match order_of(order) {
+    kept(text, || match order_of(order) {
         Some(order) => lyndon::lyndon_array_into(text, order, out),
         None => result(unsafe { lyndon_array_u8(text.as_ptr(), text.len(), order, out.as_mut_ptr(), out.len()) }),
-    }
+    })
 }
 
 pub fn array32(text: &[u32], order: u32, out: &mut [u32]) -> Result<usize, Error> {
     fill(out);
-    match order_of(order) {
+    kept(text, || match order_of(order) {
         Some(order) => lyndon::lyndon_array_u32_into(text, order, out),
         None => result(unsafe { lyndon_array_u32(text.as_ptr(), text.len(), order, out.as_mut_ptr(), out.len()) }),
-    }
+    })
 }
 
 pub fn factors(text: &[u8], out: &mut [u32]) -> Result<usize, Error> {
     fill(out);
-    lyndon::factorization_into(text, out)
+    kept(text, || lyndon::factorization_into(text, out))
 }
 
 pub fn suffix_table(text: &[u8], out: &mut [u32]) -> Result<usize, Error> {
     fill(out);
-    lyndon::suffix_table_into(text, out)
+    kept(text, || lyndon::suffix_table_into(text, out))
 }
 
 pub fn left_forest(text: &[u8], first: &mut [u32], past: &mut [u32]) -> Result<usize, Error> {
     fill(first);
     fill(past);
-    lyndon::left_forest_into(text, first, past)
+    kept(text, || lyndon::left_forest_into(text, first, past))
 }
 
 pub fn right_forest(array: &[u32], first: &mut [u32], past: &mut [u32]) -> Result<usize, Error> {
     fill(first);
     fill(past);
-    lyndon::right_forest_into(array, first, past)
+    kept(array, || lyndon::right_forest_into(array, first, past))
 }
 
 pub fn reconstruct(array: &[u32], text: &mut [u32]) -> Result<usize, Error> {
     fill(text);
-    lyndon::reconstruct_into(array, text)
+    kept(array, || lyndon::reconstruct_into(array, text))
 }
 
 pub fn runs(text: &[u8], work: &mut [u32], list: &mut [u32]) -> Result<usize, Error> {
     fill(work);
     fill(list);
-    lyndon::runs_into(text, work, list)
+    kept(text, || lyndon::runs_into(text, work, list))
 }
 
 pub fn read_fasta(input: &[u8], letters: &mut [u8]) -> Result<usize, Error> {
     fill(letters);
-    lyndon::read_fasta_into(input, letters)
+    kept(input, || lyndon::read_fasta_into(input, letters))
 }
 
 // Texts

@@ -66,7 +66,7 @@ pub fn factors(x: &[u8]) -> Vec<u32> {
                 continue;
             }
             for rest in ways[e].clone() {
-                if rest.first().is_none_or(|&next| !word_less(0, &x[i..e], &x[e..next])) {
+                if !rest.first().is_some_and(|&next| word_less(0, &x[i..e], &x[e..next])) {
                     let mut way = vec![e];
                     way.extend(rest);
                     ways[i].push(way);
@@ -143,11 +143,11 @@ pub fn runs(x: &[u8]) -> Vec<u32> {
 /// The first fault of an array: number and position.
 pub fn fault(a: &[u32]) -> Option<(u32, usize)> {
     let n = a.len();
-    for i in 0..n {
-        if a[i] == 0 {
+    for (i, &entry) in a.iter().enumerate() {
+        if entry == 0 {
             return Some((6, i));
         }
-        if a[i] as usize > n - i {
+        if entry as usize > n - i {
             return Some((7, i));
         }
     }

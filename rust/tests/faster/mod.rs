@@ -6,28 +6,32 @@ use std::collections::BTreeSet;
 /// The ranks of the suffixes of a text, by prefix doubling. `letters` are already numbered in the order wanted.
 fn ranks(letters: &[u32]) -> Vec<usize> {
     let n = letters.len();
-    let mut rank: Vec<usize> = letters.iter().map(|&l| l as usize + 1).collect();
     let mut order: Vec<usize> = (0..n).collect();
-    let mut step = 0;
-    loop {
-        let key = |i: usize| (rank[i], if step > 0 && i + step < n { rank[i + step] } else { 0 });
-        let mut keyed: Vec<((usize, usize), usize)> = order.iter().map(|&i| (key(i), i)).collect();
-        keyed.sort_unstable();
-        order = keyed.iter().map(|k| k.1).collect();
+    order.sort_by_key(|&i| letters[i]);
+    let mut rank = vec![0; n];
+    for place in 1..n {
+        rank[order[place]] = rank[order[place - 1]] + usize::from(letters[order[place - 1]] != letters[order[place]]);
+    }
+    let mut step = 1;
+    while n > 0 && rank[order[n - 1]] + 1 < n {
+        // By the rank at `step`, suffixes that end before it first; then, keeping that order, by the rank at the start.
+        let second: Vec<usize> = (n - step..n).chain(order.iter().filter(|&&i| i >= step).map(|&i| i - step)).collect();
+        let mut places = vec![0; n + 1];
+        rank.iter().for_each(|&r| places[r + 1] += 1);
+        (0..n).for_each(|r| places[r + 1] += places[r]);
+        for i in second {
+            order[places[rank[i]]] = i;
+            places[rank[i]] += 1;
+        }
+        let key = |i: usize| (rank[i], if i + step < n { rank[i + step] + 1 } else { 0 });
         let mut next = vec![0; n];
-        let mut name = 0;
-        for (place, entry) in keyed.iter().enumerate() {
-            if place == 0 || keyed[place - 1].0 != entry.0 {
-                name += 1;
-            }
-            next[entry.1] = name;
+        for place in 1..n {
+            next[order[place]] = next[order[place - 1]] + usize::from(key(order[place - 1]) != key(order[place]));
         }
         rank = next;
-        if name == n {
-            return rank.iter().map(|r| r - 1).collect();
-        }
-        step = if step == 0 { 1 } else { 2 * step };
+        step *= 2;
     }
+    rank
 }
 
 /// Letters numbered so that the order asked for is rising.
@@ -154,9 +158,9 @@ pub fn fault(a: &[u32]) -> Option<(u32, usize)> {
         return Some((if a[i] == 0 { 6 } else { 7 }, i));
     }
     let mut ends = BTreeSet::new();
-    for j in 0..n {
+    for (j, &entry) in a.iter().enumerate() {
         ends.remove(&j);
-        let end = j + a[j] as usize;
+        let end = j + entry as usize;
         if ends.first().is_some_and(|&least| least < end) {
             return Some((8, j));
         }
@@ -221,4 +225,27 @@ pub fn runs(x: &[u8]) -> Vec<u32> {
         }
     }
     found.iter().flat_map(|(&(start, last), &p)| [start, last, p]).collect()
+}
+
+/// All runs, by extensions: where a stretch of letters that equal those p behind them is at least p long, it has a place that p divides, from
+/// which common prefixes and suffixes give both its ends.
+pub fn runs_by_extensions(x: &[u8]) -> Vec<u32> {
+    let n = x.len();
+    let turned: Vec<u8> = x.iter().rev().copied().collect();
+    let (ahead, back) = (Common::new(x), Common::new(&turned));
+    let mut found = vec![];
+    for p in 1..=n / 2 {
+        for i in (0..n - p).step_by(p).filter(|&i| x[i] == x[i + p]) {
+            let left = if i == 0 { 0 } else { back.prefix(n - i, n - i - p) };
+            if left < p {
+                let right = ahead.prefix(i, i + p);
+                if left + right >= p {
+                    found.push((i - left, i + right + p - 1, p));
+                }
+            }
+        }
+    }
+    found.sort_unstable();
+    found.dedup_by_key(|run| (run.0, run.1));
+    found.iter().flat_map(|&(start, last, p)| [start as u32, last as u32, p as u32]).collect()
 }

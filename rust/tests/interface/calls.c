@@ -1,0 +1,171 @@
+/* Calls every function of include/lyndon.h, as C and as C++: accepted, refused, and with null pointers of length 0. After each call the
+ * inputs are compared with what they were, and all of the buffers with what they should be. Prints how many calls were made. */
+#include "lyndon.h"
+#include <stdio.h>
+#include <stdlib.h>
+#include <string.h>
+
+/* What no call leaves by chance. */
+#define MARK 0xa5a5a5a5u
+#define PLACES 64
+
+static const char *const sample = "aabaab";
+static uint8_t text[PLACES], text_before[PLACES], letters[4096];
+static uint32_t numbers[PLACES], numbers_before[PLACES], first[PLACES], second[PLACES];
+static unsigned calls;
+
+static void fail(const char *what) {
+    fprintf(stderr, "call %u: %s\n", calls, what);
+    exit(1);
+}
+
+/* The text or array of the next call, and buffers that hold marks. */
+static void start(const uint32_t *content, size_t n) {
+    for (size_t i = 0; i < PLACES; i++) {
+        numbers[i] = i < n ? content[i] : MARK;
+        text[i] = i < n ? (uint8_t)content[i] : 0xa5;
+        first[i] = second[i] = MARK;
+    }
+    memset(letters, 0xa5, sizeof letters);
+    memcpy(text_before, text, sizeof text);
+    memcpy(numbers_before, numbers, sizeof numbers);
+}
+
+static void start_sample(void) {
+    uint32_t content[6];
+    for (size_t i = 0; i < 6; i++) content[i] = (uint8_t)sample[i];
+    start(content, 6);
+}
+
+static void answered(lyndon_answer answer, uint32_t number, uint32_t value) {
+    calls++;
+    if (answer.number != number || answer.value != value) {
+        fprintf(stderr, "call %u: answer %u, %u; expected %u, %u\n", calls, answer.number, answer.value, number, value);
+        exit(1);
+    }
+    if (memcmp(text, text_before, sizeof text) != 0 || memcmp(numbers, numbers_before, sizeof numbers) != 0) fail("an input has changed");
+}
+
+/* A buffer begins with these numbers, and has its marks behind them. */
+static void holds(const uint32_t *buffer, const uint32_t *content, size_t n) {
+    for (size_t i = 0; i < PLACES; i++)
+        if (buffer[i] != (i < n ? content[i] : MARK)) fail("a buffer is not what it should be");
+}
+
+/* Every call on a text or an array of no elements, all pointers null. */
+static void of_nothing(void) {
+    start(NULL, 0);
+    for (uint32_t order = 0; order < 3; order++) {
+        answered(lyndon_array_u8(NULL, 0, order, NULL, 0), 1, 0);
+        answered(lyndon_array_u32(NULL, 0, order, NULL, 0), 1, 0);
+    }
+    answered(lyndon_factorization(NULL, 0, NULL, 0), 1, 0);
+    answered(lyndon_suffix_table(NULL, 0, NULL, 0), 1, 0);
+    answered(lyndon_left_forest(NULL, 0, NULL, 0, NULL, 0), 1, 0);
+    answered(lyndon_right_forest(NULL, 0, NULL, 0, NULL, 0), 1, 0);
+    answered(lyndon_reconstruct(NULL, 0, NULL, 0), 1, 0);
+    answered(lyndon_runs(NULL, 0, NULL, 0, NULL, 0), 1, 0);
+    answered(lyndon_read_fasta(NULL, 0, NULL, 0), 4, 0);
+    answered(lyndon_read_fasta(NULL, 0, letters, sizeof letters), 9, 0);
+    holds(first, NULL, 0);
+}
+
+/* Every call on a text of six letters, buffers null. */
+static void into_nothing(void) {
+    start_sample();
+    answered(lyndon_array_u8(text, 6, LYNDON_RISING, NULL, 0), 4, 0);
+    answered(lyndon_array_u8(text, 6, 2, NULL, 0), 3, 0);
+    answered(lyndon_array_u32(numbers, 6, LYNDON_FALLING, NULL, 0), 4, 0);
+    answered(lyndon_array_u32(numbers, 6, 4294967295u, NULL, 0), 3, 0);
+    answered(lyndon_factorization(text, 6, NULL, 0), 4, 0);
+    answered(lyndon_suffix_table(text, 6, NULL, 0), 4, 0);
+    answered(lyndon_left_forest(text, 6, NULL, 0, second, PLACES), 4, 0);
+    answered(lyndon_left_forest(text, 6, first, PLACES, NULL, 0), 4, 0);
+    answered(lyndon_right_forest(numbers, 6, NULL, 0, second, PLACES), 4, 0);
+    answered(lyndon_right_forest(numbers, 6, first, PLACES, NULL, 0), 4, 0);
+    answered(lyndon_reconstruct(numbers, 6, NULL, 0), 4, 0);
+    answered(lyndon_runs(text, 6, first, PLACES, NULL, 0), 4, 0);
+    answered(lyndon_runs(text, 6, NULL, 0, second, PLACES), 5, 0);
+    answered(lyndon_read_fasta(text, 6, NULL, 0), 4, 0);
+    holds(first, NULL, 0);
+    holds(second, NULL, 0);
+}
+
+static void of_a_text(void) {
+    static const uint32_t rising[] = {3, 2, 1, 3, 2, 1}, falling[] = {1, 1, 3, 1, 1, 1}, starts[] = {0, 3}, table[] = {1, 1, 3, 1, 1, 3};
+    static const uint32_t runs[] = {0, 1, 1, 0, 5, 3, 3, 4, 1};
+    uint32_t both[12];
+    memcpy(both, rising, sizeof rising);
+    memcpy(both + 6, falling, sizeof falling);
+
+    start_sample();
+    answered(lyndon_array_u8(text, 6, LYNDON_RISING, first, PLACES), 0, 6);
+    holds(first, rising, 6);
+    start_sample();
+    answered(lyndon_array_u8(text, 6, LYNDON_FALLING, first, PLACES), 0, 6);
+    holds(first, falling, 6);
+    start_sample();
+    answered(lyndon_array_u32(numbers, 6, LYNDON_RISING, first, PLACES), 0, 6);
+    holds(first, rising, 6);
+    start_sample();
+    answered(lyndon_array_u32(numbers, 6, LYNDON_FALLING, first, PLACES), 0, 6);
+    holds(first, falling, 6);
+    start_sample();
+    answered(lyndon_factorization(text, 6, first, PLACES), 0, 2);
+    holds(first, starts, 2);
+    start_sample();
+    answered(lyndon_suffix_table(text, 6, first, PLACES), 0, 6);
+    holds(first, table, 6);
+    start_sample();
+    answered(lyndon_runs(text, 6, first, PLACES, second, PLACES), 0, 3);
+    holds(first, both, 12);
+    holds(second, runs, 9);
+}
+
+/* K8, K9, K10 and K11 of the specification. */
+static void forests_and_texts(void) {
+    static const uint32_t aabb[] = {'a', 'a', 'b', 'b'}, left_first[] = {0, 0, 1, 0}, left_past[] = {0, 3, 3, 4};
+    static const uint32_t array[] = {4, 3, 1, 1}, right_first[] = {0, 0, 1, 1}, right_past[] = {0, 4, 3, 4};
+    static const uint32_t valid[] = {2, 1, 5, 2, 1, 2, 1, 3, 2, 1}, written[] = {8, 9, 3, 6, 7, 4, 5, 0, 1, 2}, crossing[] = {2, 2, 1};
+    start(aabb, 4);
+    answered(lyndon_left_forest(text, 4, first, PLACES, second, PLACES), 0, 4);
+    holds(first, left_first, 4);
+    holds(second, left_past, 4);
+    start(array, 4);
+    answered(lyndon_right_forest(numbers, 4, first, PLACES, second, PLACES), 0, 4);
+    holds(first, right_first, 4);
+    holds(second, right_past, 4);
+    start(valid, 10);
+    answered(lyndon_reconstruct(numbers, 10, first, PLACES), 0, 10);
+    holds(first, written, 10);
+    start(crossing, 3);
+    answered(lyndon_reconstruct(numbers, 3, first, PLACES), 8, 1);
+    answered(lyndon_right_forest(numbers, 3, first, PLACES, second, PLACES), 8, 1);
+    holds(first, NULL, 0);
+    holds(second, NULL, 0);
+}
+
+static void of_a_record(void) {
+    static const char record[] = ">m1 a name\nAC\r\ngt\n", unfit[] = ">m1\nAC-GT\n";
+    uint32_t content[PLACES];
+    size_t n = sizeof record - 1;
+    for (size_t i = 0; i < n; i++) content[i] = (uint8_t)record[i];
+    start(content, n);
+    answered(lyndon_read_fasta(text, n, letters, 2048), 0, 4);
+    if (memcmp(letters, "ACgt", 4) != 0 || letters[4] != 0xa5) fail("the letters are not those of the record");
+    n = sizeof unfit - 1;
+    for (size_t i = 0; i < n; i++) content[i] = (uint8_t)unfit[i];
+    start(content, n);
+    answered(lyndon_read_fasta(text, n, letters, 2048), 11, 6);
+    if (letters[0] != 0xa5) fail("a refusal has written letters");
+}
+
+int main(void) {
+    of_nothing();
+    into_nothing();
+    of_a_text();
+    forests_and_texts();
+    of_a_record();
+    printf("%u calls\n", calls);
+    return 0;
+}
