@@ -144,3 +144,16 @@ fn reading_list_counts_lines() {
     }
     assert_eq!(total, Some(sum), "the sum of the reading list");
 }
+
+/// The files that docs/DECISIONS.md names exist.
+#[test]
+fn decisions_name_files_that_exist() {
+    let root = root();
+    let mut sources = Vec::new();
+    files(&root.join("crates"), &["antt", "rt"], &mut sources);
+    let text = read(&root.join("docs/DECISIONS.md"));
+    let named: Vec<&str> = quoted(&text).into_iter().filter(|w| w.ends_with(".antt") || w.ends_with(".rt")).collect();
+    assert!(named.len() > 5, "only {} files were found in docs/DECISIONS.md", named.len());
+    let missing: Vec<&&str> = named.iter().filter(|w| !sources.iter().any(|p| p.ends_with(w))).collect();
+    assert!(missing.is_empty(), "docs/DECISIONS.md names {missing:?}");
+}
