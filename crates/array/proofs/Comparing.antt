@@ -8,7 +8,6 @@ use native.Mathlib.Omega.{arith}
 use lib.ListN.{length, getD}
 use borrow.Author.Tests.{lt-ltb, le-ltb}
 use Rattle.words.specs.Laws.SpanLyndon.{letters}
-use Rattle.words.specs.Laws.SuffixOrder.{ends}
 use Rattle.words.specs.Letters.{orderOf}
 use Rattle.answer.specs.Limits.{maxLength}
 use Rattle.array.specs.Core.Join.{ChangedAfter, Agreeing}
@@ -25,7 +24,7 @@ pub record JoinLoop (order : ℕ) (x before buf : List ℕ) (i j k g : ℕ) : Ty
   pub joining : Joining (orderOf order) (letters 0 x) (length x) (entryOf order x) (letters 0 buf) i j k g
 
 -- What is known of the factor at j from the number remembered at its last place.
-pub known-remembered : (order : ℕ) (x buf : List ℕ) (j : ℕ) → j < length x → RowsOf order x buf j →
+known-remembered : (order : ℕ) (x buf : List ℕ) (j : ℕ) → j < length x → RowsOf order x buf j →
     Known (letters 0 x) (length x) (entryOf order x) (letters 0 buf) j (rememberedAt buf j (entryOf order x j))
 known-remembered order x buf j l r = go (decLt 1 (entryOf order x j))
   where
@@ -42,8 +41,7 @@ known-remembered order x buf j l r = go (decLt 1 (entryOf order x j))
     go (no h) =
         let e : entryOf order x j ≤ 1 = omega (arith, h) in
         simp (le-ltb _ _ e)
-        (known-letter l
-        (omega (arith, entry-next order x j l .after)))
+        (known-letter l (omega (arith, entry-next order x j l .after)))
 
 -- The factor at j lies inside the buffer.
 pub factor-fits : {order : ℕ} {x before buf : List ℕ} {i j k g l : ℕ} → JoinLoop order x before buf i j k g → j < length x → length x ≤ length before →
@@ -64,6 +62,7 @@ pub record Comparing (order : ℕ) (x before buf : List ℕ) (i j k₀ g₀ l s 
   pub known : Known (letters 0 x) (length x) (entryOf order x) (letters 0 buf) j s
   pub short : s < l
 
+-- It follows from the state of the loop and from what was read.
 pub comparing : {order : ℕ} {x before buf : List ℕ} {i j k₀ g₀ l s : ℕ} → JoinLoop order x before buf i j k₀ g₀ → j < length x →
     length x ≤ length before → length x ≤ maxLength → l ≡ getD buf j 0 → s ≡ rememberedAt buf j l → Comparing order x before buf i j k₀ g₀ l s
 comparing {order} {x} {buf = buf} {j = j} {l = l} {s} w inside fits small el es =
@@ -85,6 +84,6 @@ comparing {order} {x} {buf = buf} {j = j} {l = l} {s} w inside fits small el es 
       short = omega (arith, known .short);
     }
 
--- Where the comparison begins.
+-- The letters that agree where the comparison begins.
 pub agreeing-start : {order : ℕ} {x before buf : List ℕ} {i j k₀ g₀ l s : ℕ} → Comparing order x before buf i j k₀ g₀ l s → Agreeing x i j k₀
 agreeing-start w = record { agree = w .loop .joining .agree (w .inside); within = w .loop .joining .within (w .inside) }

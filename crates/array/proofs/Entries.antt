@@ -16,10 +16,11 @@ use Rattle.words.specs.Decided.{decided-order}
 use Rattle.array.specs.Core.Rows.{entryOf, RowsOf}
 use Rattle.array.proofs.RowLaws.{front}
 
+-- Any two letters of a text compare.
 pub letters-compared : (order : ℕ) (x : List ℕ) → AllCompared (orderOf order) (letters 0 x) (length x)
 letters-compared order x = decided-compared (decided-order order) (letters 0 x) (length x)
 
--- It leads to the next smaller suffix.
+-- The entry at t leads to the next smaller suffix.
 pub entry-next : (order : ℕ) (x : List ℕ) (t : ℕ) → t < length x → NextSmaller (orderOf order) (letters 0 x) (length x) t (t + entryOf order x t)
 unfolding entryOf
 entry-next order x t l =
@@ -32,5 +33,6 @@ unfolding entryOf
 entries-array order x l e h =
     ext-getD 0 l (arrayOf (decided-order order) x) (e ∙ sym (arrayOf-holds (decided-order order) x .size)) (λ i p. h i (omega arith))
 
+-- The rows hold the entry of the position that they start at.
 pub entry-own : (order : ℕ) (x buf : List ℕ) (j : ℕ) → j < length x → RowsOf order x buf j → getD buf j 0 ≡ entryOf order x j
 entry-own order x buf j l r = front l r .own

@@ -38,8 +38,7 @@ stored-small order x before buf i s r w h l = go (w .joining .joined)
         omega (
           arith,
           w .joining .inside,
-          agreement-short (orderOf order) (letters 0 x) i (r .end) (p .part) (r .part)
-              (w .joining .lyndon) (p .after) (p .before) (p .agree),
+          agreement-short (orderOf order) (letters 0 x) i (r .end) (p .part) (r .part) (w .joining .lyndon) (p .after) (p .before) (p .agree),
         )
 
 -- What joining at the position before i asks for.
@@ -65,6 +64,7 @@ store-ready order x before buf i k r w fits small =
       stored = λ l. omega (arith, stored-small order x before buf i (min k (r .part)) r w (omega arith) l);
     }
 
+-- The same in the loop that fills.
 pub filled-store-ready : (order : ℕ) (x before₀ before buf : List ℕ) (i k : ℕ) (r : Joined) → Filled order x before₀ before i →
     JoinedTo order x before buf (i - 1) r → length x ≤ length before₀ → length x ≤ maxLength → StoreReady buf (i - 1) (r .end) (min k (r .part))
 filled-store-ready order x before₀ before buf i k r f w fits small =
@@ -90,8 +90,7 @@ filled-store order x before₀ before after i e k g s f fits changed joining nex
         simp (lt-ltb _ _ l)
         (record {
           rows =
-              joining-store (entry-next order x) joining next
-              (own′ l) a b
+              joining-store (entry-next order x) joining next (own′ l) a b
               (λ t h z.
               subst (λ (u : ℕ). getD (set (set after i (e - i)) (e - 1) s) u 0 ≡ s) (last t z)
               (getD-set-same (set after i (e - i)) (e - 1) s 0 (omega (arith, length-set after i (e - i), size, p, q))))
@@ -123,8 +122,7 @@ filled-store order x before₀ before after i e k g s f fits changed joining nex
         simp (le-ltb _ _ m)
         (record {
           rows =
-              joining-store (entry-next order x) joining next
-              own″ a b (λ t h z. absurd (omega (arith, l)))
+              joining-store (entry-next order x) joining next own″ a b (λ t h z. absurd (omega (arith, l)))
               (λ t h m′ z. getD-set-other after i t (e - i) 0 (λ y. omega arith));
           others =
               record {

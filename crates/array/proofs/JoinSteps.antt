@@ -61,8 +61,7 @@ join-start {order} {x} {buf} {i} l r =
     (record {
       changed = record { size = refl; kept = λ t h. refl };
       joining =
-          joining-start l
-          (subst (λ (j : ℕ). RowsOf order x buf j) e r);
+          joining-start l (subst (λ (j : ℕ). RowsOf order x buf j) e r);
     })
 
 -- The comparison stopped the joining: the word ends at its next smaller suffix.
@@ -73,8 +72,7 @@ joined-stopped {order} {x} {buf = buf} {i = i} {j} {k₀} {g₀} {k = k} w c =
     record {
       changed = w .loop .changed;
       joining =
-          joining-agreed (w .loop .joining)
-          (λ q. c .0 .agree) (λ q. c .0 .within);
+          joining-agreed (w .loop .joining) (λ q. c .0 .agree) (λ q. c .0 .within);
       next = c .1;
       stopped = c .2;
     }
@@ -99,7 +97,6 @@ joined-end {order} {x} {i = i} {j} w h =
       joining = w .joining;
       next =
           subst (λ (m : ℕ). NextSmaller (orderOf order) (letters 0 x) (length x) i m) e
-          (leave-end
-          (subst (λ (m : ℕ). SpanLyndon (orderOf order) (letters 0 x) i m) (sym e) (w .joining .lyndon)));
+          (leave-end (subst (λ (m : ℕ). SpanLyndon (orderOf order) (letters 0 x) i m) (sym e) (w .joining .lyndon)));
       stopped = λ q. absurd (omega arith);
     }

@@ -95,6 +95,7 @@ passing-ready order x before buf list list′ from i count p fits small h q room
       room = passing-room order x before buf list list′ from i count p h room;
     }
 
+-- The list keeps its length.
 pub passing-length : (order : ℕ) (x before buf list list′ : List ℕ) (from i count : ℕ) → Passing order x before buf list list′ from i count →
     length list′ ≡ length list
 passing-length order x before buf list list′ from i count p = ap length (p .content) ∙ putAll-length list from (p .entries)

@@ -7,7 +7,7 @@ use native.Mathlib.Decide.{decLt}
 use native.Mathlib.Omega.{arith}
 use lib.ListN.{length, getD}
 use Rattle.words.specs.Laws.SpanLyndon.{letters}
-use Rattle.words.specs.Laws.SuffixOrder.{ends, NextSmaller}
+use Rattle.words.specs.Laws.SuffixOrder.{NextSmaller}
 use Rattle.words.specs.Letters.{Letters}
 use Rattle.array.specs.Core.Fill.{KeptFrom, HasRows, AllRestored}
 use Rattle.array.specs.Core.Place.{restoredAt}
@@ -23,6 +23,7 @@ pub record Restoring {ℓ} {A : Type ℓ} (x : ℕ → A) (n : ℕ) (lam buf : �
   pub final : (t : ℕ) → t < j → buf t ≡ lam t
   pub rows : Rows x n lam buf j
 
+-- Nothing is final yet.
 pub restoring-start {ℓ} : {A : Type ℓ} {x : ℕ → A} {n : ℕ} {lam buf : ℕ → ℕ} → Rows x n lam buf 0 → Restoring x n lam buf 0
 restoring-start r = record { inside = omega arith; final = λ t p. absurd (omega arith); rows = r }
 
@@ -53,8 +54,7 @@ pub restored-start : (buf : List ℕ) (n : ℕ) → RestoredBelow buf buf n 0
 restored-start buf n =
     record {
       others = record { size = refl; kept = λ t h. refl };
-      restoring =
-          λ order x e r. restoring-start r;
+      restoring = λ order x e r. restoring-start r;
     }
 
 -- The factor at j, of length l.
@@ -63,6 +63,7 @@ pub record FactorAt (buf : List ℕ) (n j l : ℕ) : Type 0 where
   pub ends : j + l ≤ n
   pub inside : n ≤ length buf
 
+-- It is one of the rows that are left.
 pub factor-at : (before buf : List ℕ) (n j l : ℕ) → HasRows before n → RestoredBelow before buf n j → j < n → l ≡ getD buf j 0 → FactorAt buf n j l
 factor-at before buf n j l h w q e =
     let r = w .restoring (h .order) (h .text) (h .size) (h .rows) in
@@ -75,6 +76,7 @@ factor-at before buf n j l h w q e =
       inside = omega (arith, h .inside, w .others .size);
     }
 
+-- The factor at j has its last entry back.
 pub restored-step : (before buf after : List ℕ) (n j l : ℕ) → HasRows before n → RestoredBelow before buf n j → j < n → l ≡ getD buf j 0 →
     after ≡ restoredAt buf j l → RestoredBelow before after n (j + l)
 restored-step before buf after n j l h w q e changed =
@@ -103,6 +105,7 @@ restored-step before buf after n j l h w q e changed =
         let y : t ≡ j = omega (arith, f .positive) in
         ap (λ (u : ℕ). getD buf u 0) y ∙ sym e ∙ omega (arith, f .positive)) (omega arith)))
 
+-- Every factor has.
 pub all-restored : (before buf : List ℕ) (n j : ℕ) → RestoredBelow before buf n j → n ≤ j → AllRestored before buf n
 all-restored before buf n j w h =
     record { others = w .others; final = λ order x e r t p. w .restoring order x e r .final t (omega arith) }

@@ -7,19 +7,21 @@ use lib.Dec.{ltb}
 use lib.ListN.{length, getD, set}
 use Rattle.answer.specs.Limits.{maxLength}
 
--- The number remembered at the last place of the factor of length l at j; 0 for a single letter.
+-- The first of two numbers where the test passes, else the second.
 abbrev pub pickNumber : Bool → ℕ → ℕ → ℕ
 pickNumber true a b = a
 pickNumber false a b = b
 
+-- The number remembered at the last place of the factor of length l at j; 0 for a single letter.
 abbrev pub rememberedAt : List ℕ → ℕ → ℕ → ℕ
 rememberedAt buf j l = pickNumber (ltb 1 l) (getD buf (j + l - 1) 0) 0
 
+-- The same for lists.
 abbrev pub pickList : Bool → List ℕ → List ℕ → List ℕ
 pickList true a b = a
 pickList false a b = b
 
--- The buffer after the last place of that factor has its entry 1 back.
+-- The buffer after the last place of the factor of length l at j has its entry 1 back.
 abbrev pub restoredAt : List ℕ → ℕ → ℕ → List ℕ
 restoredAt buf j l = pickList (ltb 1 l) (set buf (j + l - 1) 1) buf
 
