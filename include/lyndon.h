@@ -25,7 +25,7 @@ extern "C" {
  *   5  the work buffer is shorter than 2 n
  *   6  an array's entry is 0; the position is the first entry that is bad by 6 or 7
  *   7  an array's entry i is greater than n - i; the position likewise
- *   8  the span of entry j, from j to j + array[j] - 1, crosses the end of an earlier entry's span; the position is the first such j
+ *   8  the span of entry j, positions j to j + array[j] - 1, crosses the end of an earlier entry's span; the position is the first such j
  *   9  a FASTA input does not begin with '>'; the position is 0
  *  10  its name is empty, has a 61st byte, or a byte outside 33 to 126 that does not end it; the position is that byte's, or 1
  *  11  a sequence line has a byte that is neither a letter nor its end (LF, or CR directly before LF), or '>' inside it; the position

@@ -43,7 +43,7 @@ reasons =
     EmptyText ∷ TextTooLong ∷ UnknownOrder ∷ ShortOutput ∷ ShortWork ∷ ZeroEntry ∷ LongEntry ∷ CrossingSpans ∷ NoHeader ∷ BadName ∷ UnfitByte ∷ SecondRecord ∷
     NoLetters ∷ TooManyLetters ∷ FileTooLong ∷ []
 
--- The answer with this number and value.
+-- The answer with this number and value. Numbers above 15 belong to no answer.
 abbrev pub answerWith : ℕ → ℕ → Answer
 answerWith zero v = acceptedWith v
 answerWith (suc k) v = refusedFor (getD reasons k EmptyText) v

@@ -36,12 +36,12 @@ abbrev pub leftPast : List ℕ → List ℕ
 leftPast x = leftPastOf decided-default x (factorizationOf decided-default x)
 
 -- What `left_forest` leaves in its first buffer, by its contract.
-abbrev pub firstAfter : List ℕ → List ℕ → List ℕ → List ℕ
-firstAfter x first past = contentAfter (leftForestAnswer x (length first) (length past)) (leftFirst x) first
+abbrev pub leftFirstAfter : List ℕ → List ℕ → List ℕ → List ℕ
+leftFirstAfter x first past = contentAfter (leftForestAnswer x (length first) (length past)) (leftFirst x) first
 
 -- And in its second.
-abbrev pub pastAfter : List ℕ → List ℕ → List ℕ → List ℕ
-pastAfter x first past = contentAfter (leftForestAnswer x (length first) (length past)) (leftPast x) past
+abbrev pub leftPastAfter : List ℕ → List ℕ → List ℕ → List ℕ
+leftPastAfter x first past = contentAfter (leftForestAnswer x (length first) (length past)) (leftPast x) past
 
 -- One buffer that is long enough.
 module _ (x : List ℕ) (sized : Sized (length x)) (out : List ℕ) (room : length x ≤ length out) where
@@ -97,7 +97,7 @@ module _ (x : List ℕ) (sized : Sized (length x)) (first past : List ℕ) (firs
       output-passes n (outputChecked n (length past) (acceptedWith n)) (length first) first-room ∙ output-passes n (acceptedWith n) (length past) past-room
 
   -- The first n places of both buffers hold the left forest of the text.
-  pub left-forest-written : IsLeftForest defaultOrder x (take (length x) (firstAfter x first past)) (take (length x) (pastAfter x first past))
+  pub left-forest-written : IsLeftForest defaultOrder x (take (length x) (leftFirstAfter x first past)) (take (length x) (leftPastAfter x first past))
   left-forest-written =
       let r = leftForestAnswer x (length first) (length past) in
       rw (
@@ -108,7 +108,7 @@ module _ (x : List ℕ) (sized : Sized (length x)) (first past : List ℕ) (firs
 
   -- The others hold what they held before.
   pub left-forest-rest :
-      (drop (length x) (firstAfter x first past) ≡ drop (length x) first) × (drop (length x) (pastAfter x first past) ≡ drop (length x) past)
+      (drop (length x) (leftFirstAfter x first past) ≡ drop (length x) first) × (drop (length x) (leftPastAfter x first past) ≡ drop (length x) past)
   left-forest-rest =
       let r = leftForestAnswer x (length first) (length past) in (
         written-rest r (length x) (length x) (leftFirst x) first left-forest-accepts (is-forest .first-size),

@@ -10,5 +10,5 @@ pub mod LineRows
 pub mod HeaderLine
 pub mod RecordRows
 pub mod Accepted
-pub mod Verdict
-pub mod OneVerdict
+pub mod CheckOrder
+pub mod OneAnswer

@@ -4,7 +4,7 @@ pub mod Lines
 pub mod Reader
 pub mod Classes
 pub mod Rows
-pub mod Verdict
+pub mod CheckOrder
 pub mod Examples
 pub mod Laws
 pub mod RowTheorems

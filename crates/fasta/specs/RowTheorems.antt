@@ -15,12 +15,12 @@ use Rattle.fasta.specs.Bytes.{letterOf}
 use Rattle.fasta.specs.Name.{recordName}
 use Rattle.fasta.specs.Reader.{linesStart, readerAnswer, lettersOf}
 use Rattle.fasta.specs.Rows.{NameEnds, HeaderEnds, sequenceLetters}
-use Rattle.fasta.specs.Verdict.{Refuses, Accepts, HasAnswer}
+use Rattle.fasta.specs.CheckOrder.{Refuses, Accepts, HasAnswer}
 use Rattle.fasta.specs.Laws.Accepted.{AcceptedInput, reader-accepted}
 use Rattle.fasta.specs.Laws.NameBytes.{name-bytes}
 use Rattle.fasta.specs.Laws.HeaderLine.{header-unique, LinesBegin, lines-begin, record-letters}
-use Rattle.fasta.specs.Laws.Verdict.{reader-says}
-use Rattle.fasta.specs.Laws.OneVerdict.{answer-unique}
+use Rattle.fasta.specs.Laws.CheckOrder.{reader-says}
+use Rattle.fasta.specs.Laws.OneAnswer.{answer-unique}
 
 module _ (x : List ℕ) (places : ℕ) where
   -- A row is given exactly when its condition holds and no earlier one's does.

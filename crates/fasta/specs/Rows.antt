@@ -52,7 +52,7 @@ pub record InLines (x : List ℕ) (e p : ℕ) : Type 0 where
   pub behind : e < p
   pub inside : p < length x
 
--- A line of the sequence lines starts at p: LF stands directly before it.
+-- A line of the sequence lines starts at p: LF stands directly before it. (Positions of the sequence lines are above 0.)
 abbrev pub LineStart : List ℕ → ℕ → Type 0
 LineStart x p = getD x (p - 1) 0 ≡ lineEnd
 

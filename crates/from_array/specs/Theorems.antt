@@ -64,12 +64,12 @@ abbrev pub textAfter : List ℕ → List ℕ → List ℕ
 textAfter a text = contentAfter (reconstructAnswer a (length text)) (textFor a) text
 
 -- What `right_forest` leaves in its first buffer, by its contract.
-abbrev pub firstAfter : List ℕ → List ℕ → List ℕ → List ℕ
-firstAfter a first past = contentAfter (rightForestAnswer a (length first) (length past)) (forestFirst a) first
+abbrev pub rightFirstAfter : List ℕ → List ℕ → List ℕ → List ℕ
+rightFirstAfter a first past = contentAfter (rightForestAnswer a (length first) (length past)) (forestFirst a) first
 
 -- And in its second.
-abbrev pub pastAfter : List ℕ → List ℕ → List ℕ → List ℕ
-pastAfter a first past = contentAfter (rightForestAnswer a (length first) (length past)) (forestPast a) past
+abbrev pub rightPastAfter : List ℕ → List ℕ → List ℕ → List ℕ
+rightPastAfter a first past = contentAfter (rightForestAnswer a (length first) (length past)) (forestPast a) past
 
 -- `reconstruct`, with a text buffer that is long enough.
 module _ (a : List ℕ) (sized : Sized (length a)) (text : List ℕ) (room : length a ≤ length text) where
@@ -127,8 +127,8 @@ module _ (a : List ℕ) (sized : Sized (length a)) (first past : List ℕ) (firs
 
   -- Then both buffers hold in their first n places what is read off the array, and in the others what they held before.
   pub written-buffers {ℓ κ} : TextWith {ℓ, κ} a
-      → (take (length a) (firstAfter a first past) ≡ forestFirst a) × (take (length a) (pastAfter a first past) ≡ forestPast a) ×
-      (drop (length a) (firstAfter a first past) ≡ drop (length a) first) × (drop (length a) (pastAfter a first past) ≡ drop (length a) past)
+      → (take (length a) (rightFirstAfter a first past) ≡ forestFirst a) × (take (length a) (rightPastAfter a first past) ≡ forestPast a) ×
+      (drop (length a) (rightFirstAfter a first past) ≡ drop (length a) first) × (drop (length a) (rightPastAfter a first past) ≡ drop (length a) past)
   written-buffers t =
       let r = rightForestAnswer a (length first) (length past) in
       let yes = right-forest-accepts-exactly .1 t in (
@@ -140,7 +140,7 @@ module _ (a : List ℕ) (sized : Sized (length a)) (first past : List ℕ) (firs
 
   -- That is the right forest of every text that has the array.
   pub written-forest {ℓ κ} : {A : Type ℓ} (O : Letters {ℓ, κ} A) (x : List A) → IsLyndonArray O x a
-      → IsRightForest O x (take (length a) (firstAfter a first past)) (take (length a) (pastAfter a first past))
+      → IsRightForest O x (take (length a) (rightFirstAfter a first past)) (take (length a) (rightPastAfter a first past))
   written-forest {A = A} O x h =
       let w = written-buffers (record { Letter = A; order = O; text = x; has = h }) in
       rw (w .0, w .1) (forest-of-every-text O x a h)

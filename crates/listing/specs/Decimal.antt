@@ -9,7 +9,7 @@ use lib.Dec.{ltb}
 abbrev pub digit : ℕ → ℕ
 digit d = 48 + d
 
--- The decimal digits of a number n, the first one first, of which there are at most k + 1.
+-- The decimal digits of a number n, the first one first, where there are at most k + 1 of them.
 abbrev pub decimalWithin : ℕ → ℕ → List ℕ
 decimalWithin zero n = digit n ∷ []
 decimalWithin (suc k) n = elim (ltb n 10) [ true ↦ digit n ∷ [] | false ↦ decimalWithin k (n / 10) ++ (digit (n % 10) ∷ []) ]

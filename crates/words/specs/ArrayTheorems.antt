@@ -1,6 +1,6 @@
 -- What an array alone says of the texts that have it, over letters of any kind under any total order, with no comparison decided: which
--- arrays a text has, the text written for an array, the right forest, and when two texts have one array. Every theorem holds for letters
--- and orders of every level.
+-- arrays a text has, the text written for an array, the right forest, and when two texts have one array. Every theorem about
+-- texts holds for letters and orders of every level; comparisons are decided in the last one alone.
 -- Assumes nothing.
 use mathlib.Core.Path.{_≡_, refl, sym, ap, subst, _∙_}
 use mathlib.Core.Logic.{_↔_}
@@ -67,6 +67,10 @@ valid-exactly a = (
       },
   λ t. array-valid (t .order) (t .text) a (t .has),
 )
+
+-- So a text of one kind of letters has it exactly when one of any other kind has it.
+pub any-kind {ℓ κ ℓ′ κ′} : (a : List ℕ) → TextWith {ℓ, κ} a ↔ TextWith {ℓ′, κ′} a
+any-kind a = (λ t. valid-exactly a .0 (valid-exactly a .1 t), λ t. valid-exactly a .0 (valid-exactly a .1 t))
 
 -- The check passes exactly the arrays that some text has.
 pub passed-exactly {ℓ κ} : (a : List ℕ) → (checkArray a ≡ fits) ↔ TextWith {ℓ, κ} a

@@ -31,8 +31,8 @@ pub record Tree {ρ} (Rule : ℕ → ℕ → ℕ → Type ρ) (first past : List
   pub recorded : Recorded first past tree
 
 -- FIRST and PAST are the forest of x under a rule of cutting (document 01, "The calls"): one tree for each factor. Factor k starts at
--- entry k of the starts and ends where the next one starts; for the last factor there is no next start, and reading past the end of the
--- list gives the number written last in `getD factor-starts (suc k) (length x)`: the end of the text.
+-- entry k of the starts and ends at entry k + 1 of them, where the next one starts; for the last factor there is no such entry, and
+-- `getD factor-starts (suc k) (length x)` is then the end of the text.
 pub record IsForest {ℓ κ ρ} {A : Type ℓ} (O : Letters {ℓ, κ} A) (Rule : ℕ → ℕ → ℕ → Type ρ) (x : List A) (first past : List ℕ) : Type (ℓ ⊔ κ ⊔ ρ) where
   pub first-size : length first ≡ length x
   pub past-size : length past ≡ length x

@@ -18,7 +18,8 @@ abbrev pub AllLyndon {ℓ κ} : {A : Type ℓ} → Letters {ℓ, κ} A → List 
 AllLyndon O [] = Unit {ℓ ⊔ κ}
 AllLyndon O (u ∷ us) = Lyndon O u × AllLyndon O us
 
--- u0 ≥ u1 ≥ ..: no word is smaller than the one after it. Words are totally ordered, so "not smaller" is "≥" (`Laws/WordOrder`).
+-- u0 ≥ u1 ≥ ..: no word is smaller than the one after it. "Not smaller" is "≥": exactly so where comparisons are decided, and for all
+-- letters up to what cannot be refuted (`Laws/WordOrder`).
 abbrev pub NeverRising {ℓ κ} : {A : Type ℓ} → Letters {ℓ, κ} A → List (List A) → Type (ℓ ⊔ κ)
 NeverRising O [] = Unit {ℓ ⊔ κ}
 NeverRising O (u ∷ []) = Unit {ℓ ⊔ κ}

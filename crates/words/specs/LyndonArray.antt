@@ -14,9 +14,8 @@ pub record LongestFrom {ℓ κ} {A : Type ℓ} (O : Letters {ℓ, κ} A) (x : Li
   pub lyndon : Lyndon O (span i (i + l) x)
   pub longest : (m : ℕ) → l < m → i + m ≤ length x → ¬ Lyndon O (span i (i + m) x)
 
--- a is the Lyndon array of x (document 01's array; document 002, "Lyndon arrays (1)"). Here and everywhere, `getD a i 0` is entry i of
--- the list a, counted from 0. Reading past the end of a list gives the last number written, here 0; no definition depends on that, since
--- i is always a position of the text.
+-- a is the Lyndon array of x (document 01's array; document 002, "Lyndon arrays (1)"). Here and everywhere, `getD l i d` is entry i of
+-- the list l, counted from 0, or d where l has no entry i. Only the end of a last factor (`IsForest`) makes use of d.
 pub record IsLyndonArray {ℓ κ} {A : Type ℓ} (O : Letters {ℓ, κ} A) (x : List A) (a : List ℕ) : Type (ℓ ⊔ κ) where
   pub size : length a ≡ length x
   pub entry : (i : ℕ) → i < length x → LongestFrom O x i (getD a i 0)

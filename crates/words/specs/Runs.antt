@@ -36,7 +36,7 @@ pub record Entry : Type 0 where
 abbrev pub Earlier : Entry → Entry → Type 0
 Earlier r t = (r .start < t .start) ⊎ ((r .start ≡ t .start) × (r .last < t .last))
 
--- Each entry stands before all that follow it.
+-- Each entry stands before all that follow it; `List·Memᴰ t rs` says that t stands in the list rs.
 abbrev pub Sorted : List Entry → Type 0
 Sorted [] = Unit {0}
 Sorted (r ∷ rs) = ((t : Entry) → List·Memᴰ t rs → Earlier r t) × Sorted rs

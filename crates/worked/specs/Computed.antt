@@ -1,6 +1,6 @@
 -- What an example comes to by computation, and that it then holds: each form that computes satisfies its definition.
 -- Assumes nothing.
-use mathlib.Core.Path.{_≡_, ap, subst, _∙_}
+use mathlib.Core.Path.{_≡_, sym, ap, subst, _∙_}
 use mathlib.Core.List.{List, [], _∷_}
 use Prim.Native.Nat.{ℕ}
 use lib.ListN.{length}
@@ -19,10 +19,12 @@ use Rattle.words.specs.Compute.RightForest.{rightFirstOf, rightPastOf, rightFor
 use Rattle.words.specs.Compute.LeftForest.{leftFirstOf, leftPastOf}
 use Rattle.words.specs.Laws.ForestRecords.{leftForestOf-holds}
 use Rattle.words.specs.Compute.ValidArray.{fits, fault, HasVerdict, checkArray, checkArray-holds}
+use Rattle.words.specs.ArrayForest.{forestFirst, forestPast}
 use Rattle.words.specs.ArrayTheorems.{TextWith, passed-exactly}
 use Rattle.answer.specs.declared.Answer.{Answer}
 use Rattle.answer.specs.Faults.{reasonFor}
 use Rattle.answer.specs.Answers.{refusedFor, number, value}
+use Rattle.answer.specs.Checks.{contentAfter, content-refused}
 use Rattle.answer.specs.AcceptedContent.{Sized}
 use Rattle.from_array.specs.Answers.{verdictAnswer, arrayChecked}
 use Rattle.from_array.specs.Theorems.{reconstruct-checked, reconstruct-accepts-exactly, written-text, right-forest-checked}
@@ -65,14 +67,22 @@ computed-holds (refused a r p) h =
     record {
       fault = h .1;
       first = subst (HasVerdict a) (h .2) (checkArray-holds a);
-      reconstructed = λ text room. says (reconstruct-checked a sized text room);
-      forested = λ first past first-room past-room. says (right-forest-checked a sized first past first-room past-room);
+      reconstructed =
+          λ text room. let e = told (reconstruct-checked a sized text room) in (says e, left-alone e (textFor a) text);
+      forested =
+          λ first past first-room past-room.
+          let e = told (right-forest-checked a sized first past first-room past-room) in
+          (says e, left-alone e (forestFirst a) first, left-alone e (forestPast a) past);
     }
   where
-    says : {answer : Answer} → answer ≡ arrayChecked a → Says answer r p
-    says e =
-        let q = e ∙ ap (verdictAnswer (length a)) (h .2) in
-        record { numbered = ap number q ∙ h .3; valued = ap value q }
+    told : {answer : Answer} → answer ≡ arrayChecked a → answer ≡ refusedFor (reasonFor (h .1)) p
+    told e = e ∙ ap (verdictAnswer (length a)) (h .2)
+
+    says : {answer : Answer} → answer ≡ refusedFor (reasonFor (h .1)) p → Says answer r p
+    says e = record { numbered = ap number e ∙ h .3; valued = ap value e }
+
+    left-alone : {answer : Answer} → answer ≡ refusedFor (reasonFor (h .1)) p → (l before : List ℕ) → contentAfter answer l before ≡ before
+    left-alone {answer} e l before = sym (content-refused answer (reasonFor (h .1)) p e l before)
 
 -- Every example of a table comes out by computation.
 abbrev pub AllComputed : List Example → Type 0

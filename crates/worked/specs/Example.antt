@@ -14,7 +14,7 @@ use Rattle.words.specs.ValidArray.{Valid, Fault, FirstFault, textFor}
 use Rattle.answer.specs.declared.Answer.{Answer}
 use Rattle.answer.specs.Answers.{acceptedWith, number, value}
 use Rattle.from_array.specs.Answers.{reconstructAnswer, rightForestAnswer}
-use Rattle.from_array.specs.Theorems.{textAfter}
+use Rattle.from_array.specs.Theorems.{textAfter, rightFirstAfter, rightPastAfter}
 
 -- Letters are numbers, as all texts of the calls have them.
 pub data Example : Type 0 where
@@ -26,19 +26,21 @@ pub data Example : Type 0 where
   text : (entries text : List ℕ) → Example
   refused : (entries : List ℕ) (number position : ℕ) → Example
 
--- An answer refuses with that number and position.
+-- An answer has that number and value.
 pub record Says (answer : Answer) (r p : ℕ) : Type 0 where
   pub numbered : number answer ≡ r
   pub valued : value answer ≡ p
 
 -- An array is refused with a number at a position: its first fault stands there, and with buffers that are long enough both calls that
--- take an array answer with that number and position.
+-- take an array answer with that number and position and leave their buffers as they were.
 pub record ArrayRefused (a : List ℕ) (r p : ℕ) : Type 0 where
   pub fault : Fault
   pub first : FirstFault a fault p
-  pub reconstructed : (text : List ℕ) → length a ≤ length text → Says (reconstructAnswer a (length text)) r p
+  pub reconstructed :
+      (text : List ℕ) → length a ≤ length text → Says (reconstructAnswer a (length text)) r p × (textAfter a text ≡ text)
   pub forested :
-      (first past : List ℕ) → length a ≤ length first → length a ≤ length past → Says (rightForestAnswer a (length first) (length past)) r p
+      (first past : List ℕ) → length a ≤ length first → length a ≤ length past
+      → Says (rightForestAnswer a (length first) (length past)) r p × (rightFirstAfter a first past ≡ first) × (rightPastAfter a first past ≡ past)
 
 -- A text is written for an array: the array is valid, the text is the one that document 01 writes, and it has that array; with a buffer
 -- that is long enough `reconstruct` accepts the array, and leaves the text in its first places.

@@ -19,7 +19,7 @@ use Rattle.fasta.specs.Lines.{linesFrom}
 use Rattle.fasta.specs.Reader.{nameChecked, linesStart, recordEnding}
 use Rattle.fasta.specs.Rows.{Stands, NameEnds, HeaderEnds, sequenceLetters, LineRow, unfit-byte, second-record, letter-too-many}
 use Rattle.fasta.specs.Rows.{RecordRow, no-header, bad-name, in-lines, no-letters}
-use Rattle.fasta.specs.Verdict.{passOf, EarlierCheck, by-pass, by-position, FirstOf}
+use Rattle.fasta.specs.CheckOrder.{passOf, EarlierCheck, by-pass, by-position, FirstOf}
 use Rattle.fasta.specs.Laws.Stands.{StartSays, start-says}
 use Rattle.fasta.specs.Laws.NameRows.{NameRow, NameSays, named-fits, name-says}
 use Rattle.fasta.specs.Laws.LineRows.{CleanTo, EndingSays}

@@ -117,7 +117,7 @@ module _ {ℓ κ} {A : Type ℓ} (O : Letters {ℓ, κ} A) (x : List A) (a : Lis
   cut-is-right s c e w f =
       record {
         proper = f .after;
-        inside = f .before;
+        non-empty = f .before;
         lyndon =
             subst (λ (m : ℕ). Lyndon O (span c m x)) (f .ends)
             (h .entry c (omega (arith, f .before, w .inside, h .size)) .lyndon);

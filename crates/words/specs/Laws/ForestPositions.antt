@@ -59,7 +59,7 @@ module _ {ℓ κ} {A : Type ℓ} {O : Letters {ℓ, κ} A} {x : List A} {first p
 
   -- The right forest.
   pub right-forest-positions : (f : IsRightForest O x first past) → positions f ≡ tabulate (λ j. j) 0 (length x)
-  right-forest-positions f = forest-positions (λ a c b r. (r .proper, r .inside)) f
+  right-forest-positions f = forest-positions (λ a c b r. (r .proper, r .non-empty)) f
 
   -- The left forest.
   pub left-forest-positions : (f : IsLeftForest O x first past) → positions f ≡ tabulate (λ j. j) 0 (length x)

@@ -20,7 +20,7 @@ use Rattle.words.specs.Laws.Compared.{AllCompared, decided-compared, suf
 -- The span from a to b is cut before c as u·v, v the smallest of its proper non-empty suffixes (document 002, "Lyndon trees (1)").
 pub record SmallestSuffix {ℓ κ} {A : Type ℓ} (O : Letters {ℓ, κ} A) (x : List A) (a c b : ℕ) : Type (ℓ ⊔ κ) where
   pub proper : a < c
-  pub inside : c < b
+  pub non-empty : c < b
   pub smallest : (k : ℕ) → a < k → k < b → ¬ (k ≡ c) → Less O (span c b x) (span k b x)
 
 -- Suffixes of the text cut off at b, and spans that end there.
@@ -87,7 +87,7 @@ module _ {ℓ κ} {A : Type ℓ} (O : Letters {ℓ, κ} A) (z : A) (x : List A) 
   right-cut-smallest compared r =
       record {
         proper = r .proper;
-        inside = r .inside;
+        non-empty = r .non-empty;
         smallest =
             λ k p q n.
             span-less O z x c b k b f f
@@ -110,34 +110,34 @@ module _ {ℓ κ} {A : Type ℓ} (O : Letters {ℓ, κ} A) (z : A) (x : List A) 
   smallest-cut s =
       record {
         proper = s .proper;
-        inside = s .inside;
+        non-empty = s .non-empty;
         lyndon =
             span-lyndon O z x c b f
-            (smaller-lyndon O (letters z x) b c (s .inside)
-            (λ j p q. less-suffixes c j (omega (arith, s .inside)) (s .smallest j (omega (arith, s .proper)) q (λ e. omega arith))));
+            (smaller-lyndon O (letters z x) b c (s .non-empty)
+            (λ j p q. less-suffixes c j (omega (arith, s .non-empty)) (s .smallest j (omega (arith, s .proper)) q (λ e. omega arith))));
         longest =
             λ k p q w.
-            let l : k < b = omega (arith, s .inside) in
+            let l : k < b = omega (arith, s .non-empty) in
             suffix-asym O (letters z x) b c k
-            (less-suffixes c k (omega (arith, s .inside)) (s .smallest k p l (λ e. omega arith)))
-            (lyndon-below O (letters z x) b k b (lyndon-span O z x k b f w) (omega arith) c q (s .inside));
+            (less-suffixes c k (omega (arith, s .non-empty)) (s .smallest k p l (λ e. omega arith)))
+            (lyndon-below O (letters z x) b k b (lyndon-span O z x k b f w) (omega arith) c q (s .non-empty));
       }
 
 -- The cut of the standard factorization is that of the right forest's rule.
 pub smallest-right-cut {ℓ κ} : {A : Type ℓ} (O : Letters {ℓ, κ} A) (x : List A) (a c b : ℕ) → b ≤ length x → SmallestSuffix O x a c b → RightCut O x a c b
-smallest-right-cut O [] a c b f s = absurd (omega (arith, s .inside))
+smallest-right-cut O [] a c b f s = absurd (omega (arith, s .non-empty))
 smallest-right-cut O (e ∷ x) a c b f s = smallest-cut O e (e ∷ x) a c b f s
 
 -- The right forest's rule cuts off a suffix of which no other proper one is smaller.
 pub right-cut-none-smaller {ℓ κ} : {A : Type ℓ} (O : Letters {ℓ, κ} A) (x : List A) (a c b : ℕ) → b ≤ length x → RightCut O x a c b
     → (k : ℕ) → a < k → k < b → ¬ (k ≡ c) → ¬ Less O (span k b x) (span c b x)
-right-cut-none-smaller O [] a c b f r k p q n = absurd (omega (arith, r .inside))
+right-cut-none-smaller O [] a c b f r k p q n = absurd (omega (arith, r .non-empty))
 right-cut-none-smaller O (e ∷ x) a c b f r k p q n = right-cut-least O e (e ∷ x) a c b f r k p q n
 
 -- For letters whose comparisons are decided the two are the same: document 000's cut and document 002's.
 pub standard-factorization {ℓ κ} : {A : Type ℓ} {O : Letters {ℓ, κ} A} → Decided O → (x : List A) (a c b : ℕ) → b ≤ length x
     → RightCut O x a c b ↔ SmallestSuffix O x a c b
-standard-factorization {O = O} D [] a c b f = (λ r. absurd (omega (arith, r .inside)), smallest-right-cut O [] a c b f)
+standard-factorization {O = O} D [] a c b f = (λ r. absurd (omega (arith, r .non-empty)), smallest-right-cut O [] a c b f)
 standard-factorization {O = O} D (e ∷ x) a c b f = (
   right-cut-smallest O e (e ∷ x) a c b f (decided-compared D (letters e (e ∷ x)) (length (e ∷ x))),
   smallest-right-cut O (e ∷ x) a c b f,

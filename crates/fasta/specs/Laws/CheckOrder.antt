@@ -17,7 +17,7 @@ use Rattle.fasta.specs.declared.lines.Ending.{Ending}
 use Rattle.fasta.specs.declared.lines.Ending.the-variants.{RefusedAt, NextRecord, Finished}
 use Rattle.fasta.specs.Reader.{recordEnding, answerFor, readerAnswer}
 use Rattle.fasta.specs.Rows.{sequenceLetters, RecordRow, no-letters, Row, short-buffer, long-input, in-record}
-use Rattle.fasta.specs.Verdict.{EarlierCheck, FirstOf, Refuses, Accepts, HasAnswer}
+use Rattle.fasta.specs.CheckOrder.{EarlierCheck, FirstOf, Refuses, Accepts, HasAnswer}
 use Rattle.fasta.specs.Laws.RecordRows.{earlier-pass, earlier-position, record-pass, last-only, ReadToEnd, RecordSays, record-says}
 
 no-length : (l : List ℕ) → length l ≡ 0 → l ≡ []

@@ -15,7 +15,7 @@ use Rattle.fasta.specs.Bytes.{headerMark}
 use Rattle.fasta.specs.Rows.{HeaderEnds, LineStart, UnfitAt, other-byte, return-alone, mark-inside, sequenceLetters}
 use Rattle.fasta.specs.Rows.{LineRow, unfit-byte, second-record, letter-too-many, no-header, bad-name, in-lines, no-letters}
 use Rattle.fasta.specs.Rows.{Row, short-buffer, long-input, in-record}
-use Rattle.fasta.specs.Verdict.{passOf, EarlierCheck, by-pass, by-position, Refuses, HasOutcome, HasAnswer}
+use Rattle.fasta.specs.CheckOrder.{passOf, EarlierCheck, by-pass, by-position, Refuses, HasOutcome, HasAnswer}
 use Rattle.fasta.specs.Laws.Classes.{letter-other}
 use Rattle.fasta.specs.Laws.LineRows.{unfit-no-letter}
 use Rattle.fasta.specs.Laws.HeaderLine.{header-unique}

@@ -12,7 +12,8 @@ use Rattle.answer.specs.declared.Reason.the-variants.{EmptyText, TextTooLong, U
 use Rattle.answer.specs.declared.Reason.the-variants.{NoHeader, BadName, UnfitByte, SecondRecord, NoLetters, TooManyLetters, FileTooLong}
 use Rattle.fasta.specs.Rows.{HeaderEnds, sequenceLetters, Row}
 
--- "Checks run from the top row down; 6 and 7 share one pass, as do 11, 12 and 14": the passes in their order.
+-- "Checks run from the top row down; 6 and 7 share one pass, as do 11, 12 and 14": the passes in their order, which are
+-- not the numbers of the refusals.
 abbrev pub passOf : Reason → ℕ
 passOf EmptyText = 1
 passOf TextTooLong = 2
