@@ -2,6 +2,7 @@ pub mod Decimal
 pub mod Written
 pub mod Bed
 pub mod Listing
+pub mod Theorems
 pub mod Examples
 pub mod Limits
 pub mod Laws

@@ -1,0 +1,40 @@
+-- What the lister prints, by the rows of the reader and the published definition of runs.
+-- Assumes nothing.
+use mathlib.Core.Path.{_≡_, sym, ap, ap₂, subst, _∙_}
+use mathlib.Core.List.{List, map}
+use Prim.Native.Nat.{ℕ, _-_}
+use lib.ListN.{take, drop}
+use Rattle.words.specs.Equality.{decided-number-equality}
+use Rattle.words.specs.Runs.{Entry, IsRunList}
+use Rattle.words.specs.Compute.Runs.{runsOf}
+use Rattle.words.specs.Laws.Runs.{run-list-unique}
+use Rattle.words.specs.Laws.RunSearch.{runsOf-holds}
+use Rattle.answer.specs.declared.Answer.{Answer}
+use Rattle.answer.specs.declared.Reason.{Reason}
+use Rattle.answer.specs.Reasons.{numberOf}
+use Rattle.answer.specs.Limits.{maxLetters}
+use Rattle.fasta.specs.Bytes.{letterOf}
+use Rattle.fasta.specs.Name.{recordName}
+use Rattle.fasta.specs.Rows.{NameEnds, HeaderEnds, sequenceLetters}
+use Rattle.fasta.specs.CheckOrder.{Refuses, Accepts}
+use Rattle.fasta.specs.Reader.{lettersOf}
+use Rattle.fasta.specs.RowTheorems.{refused-exactly, accepted-exactly, letters-are}
+use Rattle.fasta.specs.Laws.NameBytes.{name-bytes}
+use Rattle.listing.specs.Bed.{bedLines}
+use Rattle.listing.specs.Listing.{refusalLine, listingFor, listingOf}
+
+module _ (x : List ℕ) where
+  -- An input that a row refuses has one line: `refused N at P`, the row's number and position.
+  pub refused-listing : (r : Reason) (p : ℕ) → Refuses x maxLetters r p → listingOf x ≡ refusalLine (numberOf r) p
+  refused-listing r p h = ap (λ (a : Answer). listingFor (a .outcome) x) (refused-exactly x maxLetters r p .1 h)
+
+  -- Any other has a BED line for each run of the letters of its sequence lines, in the order of the run list, under the name that stands
+  -- between its '>' and the name's end p. The header line ends at e.
+  pub accepted-listing : (c p e : ℕ) (rs : List Entry) → Accepts x maxLetters c → NameEnds x 0 p → HeaderEnds x 0 e
+      → IsRunList (map letterOf (sequenceLetters x e)) rs → listingOf x ≡ bedLines (take (p - 1) (drop 1 x)) rs
+  accepted-listing c p e rs h name header runs =
+      let letters : lettersOf x ≡ map letterOf (sequenceLetters x e) = letters-are x e header in
+      let same : runsOf decided-number-equality (lettersOf x) ≡ rs =
+      run-list-unique (subst (λ (l : List ℕ). IsRunList l (runsOf decided-number-equality (lettersOf x))) letters (runsOf-holds decided-number-equality (lettersOf x))) runs in
+      ap (λ (a : Answer). listingFor (a .outcome) x) (accepted-exactly x maxLetters c .1 h) ∙
+      ap₂ bedLines (name-bytes name) same
