@@ -132,7 +132,7 @@ pub fn lyndon_array(text: &[u32], order: u32, out: &mut [u32]) -> Answer
     match outcome {
         Outcome::Accepted { count: _ } => {
             compute(text, order, out);
-            answer::accepted(text.len() as u32)
+            told
         }
         Outcome::Refused {
             reason: _,
