@@ -33,23 +33,43 @@ module _ (r : Answer) (n order given : ℕ) where
   pub array-accepted : r ≡ acceptedWith n → ¬ (n ≡ 0) → n ≤ maxLength → order ≤ 1 → n ≤ given → r ≡ arrayAnswer n order given
   array-accepted e a b c d = simp (ne-eqb _ _ a, le-ltb _ _ b, le-ltb _ _ c, le-ltb _ _ d) e
 
--- Where the call accepts, the text fits.
-pub array-fits : (r : Answer) (x buf : List ℕ) (order count : ℕ) → r ≡ arrayAnswer (length x) order (length buf) → r .outcome ≡ Accepted count →
-    TextFits x buf
-array-fits r x buf order count e h = go (eqb (length x) 0) (ltb maxLength (length x)) (ltb 1 order) (ltb (length buf) (length x)) refl refl
-    (sym (ap (λ (a : Answer). a .outcome) e) ∙ h)
+-- Where the call accepts, the text fits, and the count is its length.
+record Passed (x buf : List ℕ) (a : Answer) : Type 0 where
+  fits : TextFits x buf
+  accepts : acceptedWith (length x) ≡ a
+
+array-passed : (x buf : List ℕ) (order count : ℕ) → arrayAnswer (length x) order (length buf) .outcome ≡ Accepted count →
+    Passed x buf (arrayAnswer (length x) order (length buf))
+array-passed x buf order count =
+    go (eqb (length x) 0) (ltb maxLength (length x)) (ltb 1 order) (ltb (length buf) (length x)) refl refl
   where
     go : (a b c d : Bool) → ltb maxLength (length x) ≡ b → ltb (length buf) (length x) ≡ d →
         pickAnswer a (refusedFor EmptyText 0)
         (pickAnswer b (refusedFor TextTooLong 0)
         (pickAnswer c (refusedFor UnknownOrder 0) (pickAnswer d (refusedFor ShortOutput 0) (acceptedWith (length x))))) .outcome
-        ≡ Accepted count → TextFits x buf
+        ≡ Accepted count →
+        Passed x buf
+        (pickAnswer a (refusedFor EmptyText 0)
+        (pickAnswer b (refusedFor TextTooLong 0)
+        (pickAnswer c (refusedFor UnknownOrder 0) (pickAnswer d (refusedFor ShortOutput 0) (acceptedWith (length x))))))
     go true b c d p q z = let y : _≡_ {A = ℕ} 0 1 = cc in absurd (omega arith)
     go false true c d p q z = let y : _≡_ {A = ℕ} 0 1 = cc in absurd (omega arith)
     go false false true d p q z = let y : _≡_ {A = ℕ} 0 1 = cc in absurd (omega arith)
     go false false false true p q z = let y : _≡_ {A = ℕ} 0 1 = cc in absurd (omega arith)
     go false false false false p q z =
-        record { fits = nltb→le (length buf) (length x) (rw q tt); small = nltb→le maxLength (length x) (rw p tt) }
+        record {
+          fits = record { fits = nltb→le (length buf) (length x) (rw q tt); small = nltb→le maxLength (length x) (rw p tt) };
+          accepts = refl;
+        }
+
+pub array-fits : (a : Answer) (x buf : List ℕ) (order count : ℕ) → a ≡ arrayAnswer (length x) order (length buf) → a .outcome ≡ Accepted count →
+    TextFits x buf
+array-fits a x buf order count e h = array-passed x buf order count (sym (ap (λ (b : Answer). b .outcome) e) ∙ h) .fits
+
+pub array-accepts : (a r : Answer) (x buf : List ℕ) (order count : ℕ) → a ≡ arrayAnswer (length x) order (length buf) → a .outcome ≡ Accepted count →
+    r ≡ acceptedWith (length x) → r ≡ arrayAnswer (length x) order (length buf)
+array-accepts a r x buf order count e h is-r =
+    is-r ∙ array-passed x buf order count (sym (ap (λ (b : Answer). b .outcome) e) ∙ h) .accepts
 
 -- The lengths needed, l of the list and m of the work buffer, are those that the code computes.
 module _ (r : Answer) (x : List ℕ) (work list : ℕ) where
