@@ -50,13 +50,13 @@ written-places l n before after e h rest value =
         (ap (λ (j : ℕ). getD (written l before) j 0) (sym k) ∙ getD-append-add l (drop (length l) before) (t - length l) 0 ∙
         getD-drop (length l) before (t - length l) 0 ∙ ap (λ (j : ℕ). getD before j 0) k)
 
-module _ {f : ℕ → ℕ} where
-  pub holds-none : (b : List ℕ) → Holds f 0 b b
-  holds-none b = record { value = λ t q. absurd (omega arith); others = kept-all b }
+module _ (f : ℕ → ℕ) (before : List ℕ) where
+  pub holds-none : Holds f 0 before before
+  holds-none = record { value = λ t q. absurd (omega arith); others = kept-all before }
 
   -- One place more.
-  pub holds-more : (n v : ℕ) {before now : List ℕ} → Holds f n before now → n < length before → v ≡ f n → Holds f (n + 1) before (set now n v)
-  holds-more n v {now = now} w h e =
+  pub holds-more : (n v : ℕ) (now : List ℕ) → Holds f n before now → n < length before → v ≡ f n → Holds f (n + 1) before (set now n v)
+  holds-more n v now w h e =
       record {
         value = λ t q. at t q (ℕ-discrete t n);
         others = kept-then (kept-where (w .others) (λ t p. omega arith)) (kept-set now n v (λ t p q. omega arith));
@@ -66,13 +66,9 @@ module _ {f : ℕ → ℕ} where
       at t q (yes r) = ap (λ (k : ℕ). getD (set now n v) k 0) r ∙ getD-set-same now n v 0 (omega (arith, w .others .size)) ∙ e ∙ ap f (sym r)
       at t q (no r) = getD-set-other now n t v 0 r ∙ w .value t (omega arith)
 
-  -- All places.
-  pub holds-as : {n m : ℕ} {before now : List ℕ} → Holds f n before now → n ≡ m → Holds f m before now
-  holds-as {before = before} {now} w e = subst (λ (k : ℕ). Holds f k before now) e w
-
   -- The values of f were written.
-  pub holds-written : (n : ℕ) {before after : List ℕ} → Holds f n before after → n ≤ length before → after ≡ written (tabulate f 0 n) before
-  holds-written n {before} {after} w h =
+  pub holds-written : (n : ℕ) (after : List ℕ) → Holds f n before after → n ≤ length before → after ≡ written (tabulate f 0 n) before
+  holds-written n after w h =
       written-places (tabulate f 0 n) n before after (length-tabulate f 0 n) h (w .others)
       (λ t q. w .value t q ∙ sym (getD-tabulate f 0 n t q ∙ ap f (zero-add t)))
 
