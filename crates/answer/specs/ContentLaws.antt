@@ -6,6 +6,7 @@ use Prim.Native.Nat.{ℕ, suc, _+_, _-_, _<_, _≤_}
 use native.Mathlib.Omega.{arith}
 use native.Mathlib.Decide.{ℕ-discrete, decLt}
 use native.Mathlib.Nat.{zero-add}
+use native.Mathlib.Numerals.{add-one}
 use lib.ListN.{length, getD, set, take, drop, length-set, length-append, length-drop, List·getD-append}
 use lib.Seq.{ext-getD, getD-set-same, getD-set-other, getD-append-add, getD-drop, sets, sets-eq, length-sets}
 use Rattle.words.specs.Tabulate.{tabulate}
@@ -106,6 +107,14 @@ written-none b at h = written-sets b b at at [] refl (omega arith) h
 -- One store.
 pub written-one : (b : List ℕ) (at v : ℕ) → at < length b → Written b (set b at v) at (at + 1) (v ∷ [])
 written-one b at v h = written-sets b (set b at v) at (at + 1) (v ∷ []) refl refl (omega arith)
+
+-- Three stores in a row.
+pub written-three : (b : List ℕ) (at u v w next : ℕ) → next ≡ at + 3 → next ≤ length b →
+    Written b (set (set (set b at u) (at + 1) v) (at + 2) w) at next (u ∷ v ∷ w ∷ [])
+written-three b at u v w next e h =
+    written-sets b (set (set (set b at u) (at + 1) v) (at + 2) w) at next (u ∷ v ∷ w ∷ [])
+    (let f : at + 2 ≡ suc (suc at) = omega arith in
+    rw (add-one at, f)) e h
 
 module _ {b m : List ℕ} {at n : ℕ} {l : List ℕ} (v : Written b m at n l) where
   -- The buffer is as long as before.
