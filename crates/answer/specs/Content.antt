@@ -33,3 +33,7 @@ pub record Written (before after : List ℕ) (at next : ℕ) (l : List ℕ) : Ty
   pub past : next ≡ at + length l
   pub fits : next ≤ length before
   pub content : after ≡ take at before ++ l ++ drop next before
+
+-- Where l is still to be written from `at` on into b, that makes all of l₀ written from at₀ on into b₀.
+pub record Pending (b : List ℕ) (at : ℕ) (l b₀ : List ℕ) (at₀ : ℕ) (l₀ : List ℕ) : Type 0 where
+  pub completed : (a : List ℕ) (next : ℕ) → Written b a at next l → Written b₀ a at₀ next l₀

@@ -12,7 +12,7 @@ use lib.Seq.{ext-getD, getD-set-same, getD-set-other, getD-append-add, getD-drop
 use Rattle.words.specs.Tabulate.{tabulate}
 use Rattle.words.specs.Laws.Tabulate.{length-tabulate, getD-tabulate}
 use Rattle.answer.specs.Checks.{written}
-use Rattle.answer.specs.Content.{Kept, From, Except, Stored, Holds, Written}
+use Rattle.answer.specs.Content.{Kept, From, Stored, Holds, Written, Pending}
 
 module _ {P : ℕ → Type 0} where
   -- Nothing is written.
@@ -131,6 +131,10 @@ module _ {b m : List ℕ} {at n : ℕ} {l : List ℕ} (v : Written b m at n l) w
       written-sets b a at o (l ++ k) (rw (written-stores v, v .past) at (written-stores w) ∙ sym (sets-append b at l k))
       (omega (arith, length-append l k, v .past, w .past)) (omega (arith, w .fits, written-size))
 
+  -- It has its place there.
+  pub written-within : n ≤ length m
+  written-within = omega (arith, v .fits, written-size)
+
   -- An equal list.
   pub written-as : {k : List ℕ} → l ≡ k → Written b m at n k
   written-as e = subst (Written b m at n) e v
@@ -140,3 +144,15 @@ pub written-whole : {b a : List ℕ} {n : ℕ} {l : List ℕ} → Written b a 0 
 written-whole {b} {l = l} w =
     let e : 0 + length l ≡ length l = omega arith in
     w .content ∙ ap (λ (k : ℕ). l ++ drop k b) (w .past ∙ e)
+
+-- At the start all is pending.
+pub pending-all : (b : List ℕ) (at : ℕ) (l : List ℕ) → Pending b at l b at l
+pending-all b at l = record { completed = λ a next w. w }
+
+-- Once l is written, k is pending.
+pub pending-rest : {b m b₀ : List ℕ} {at n at₀ : ℕ} {l k l₀ : List ℕ} → Pending b at (l ++ k) b₀ at₀ l₀ → Written b m at n l → Pending m n k b₀ at₀ l₀
+pending-rest p v = record { completed = λ a next w. p .completed a next (written-append v w) }
+
+-- Where nothing is pending, all is written.
+pub pending-none : {b b₀ : List ℕ} {at at₀ : ℕ} {l₀ : List ℕ} → Pending b at [] b₀ at₀ l₀ → at ≤ length b → Written b₀ b at₀ at l₀
+pending-none {b} {at = at} p h = p .completed b at (written-none b at h)
