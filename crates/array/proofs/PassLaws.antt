@@ -1,6 +1,6 @@
 -- Visiting every position from the last to the first.
 -- Assumes nothing.
-use mathlib.Core.Path.{_≡_, refl, subst, sym, ap, _∙_}
+use mathlib.Core.Path.{_≡_, subst, sym, _∙_}
 use mathlib.Core.List.{List, [], _∷_, _++_}
 use Prim.Native.Nat.{ℕ, suc, _+_, _<_, _≤_, _-_, _*_}
 use native.Mathlib.Omega.{arith}

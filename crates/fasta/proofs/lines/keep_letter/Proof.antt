@@ -6,7 +6,7 @@ use native.Mathlib.Omega.{arith}
 use lib.ListN.{length, getD}
 use Rattle.fasta.specs.declared.bytes.Kind.{Kind}
 use Rattle.fasta.specs.Lines.{letterBefore, letterAt}
-use Rattle.answer.specs.ContentLaws.{written-none, written-one, written-as}
+use Rattle.answer.specs.ContentLaws.{written-none, written-one}
 use borrow.Author.Needs.{needs}
 use Rattle.fasta.proofs.lines.keep_letter.Statement.{statement}
 use Rattle.fasta.proofs.lines.keep_letter.Tie as tie
