@@ -1,7 +1,9 @@
 pub mod Reasons
 pub mod Answers
 pub mod Limits
+pub mod Content
 pub mod Faults
 pub mod Checks
 pub mod CheckLaws
+pub mod ContentLaws
 pub mod AcceptedContent

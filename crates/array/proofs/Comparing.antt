@@ -10,7 +10,8 @@ use borrow.Author.Tests.{lt-ltb, le-ltb}
 use Rattle.words.specs.Laws.SpanLyndon.{letters}
 use Rattle.words.specs.Letters.{orderOf}
 use Rattle.answer.specs.Limits.{maxLength}
-use Rattle.array.specs.Core.Join.{ChangedAfter, Agreeing}
+use Rattle.answer.specs.Content.{Kept}
+use Rattle.array.specs.Core.Join.{Outside, Agreeing}
 use Rattle.array.specs.Core.Joining.{Joining}
 use Rattle.array.specs.Core.Place.{rememberedAt}
 use Rattle.array.specs.Core.Rows.{entryOf, RowsOf}
@@ -20,7 +21,7 @@ use Rattle.array.proofs.RowLaws.{Front, front}
 
 -- The state of the join loop of position i: the buffer at the start, the buffer now, and how far it has come.
 pub record JoinLoop (order : ℕ) (x before buf : List ℕ) (i j k g : ℕ) : Type 0 where
-  pub changed : ChangedAfter before buf i (length x)
+  pub changed : Kept (Outside i (length x)) before buf
   pub joining : Joining (orderOf order) (letters 0 x) (length x) (entryOf order x) (letters 0 buf) i j k g
 
 -- What is known of the factor at j from the number remembered at its last place.

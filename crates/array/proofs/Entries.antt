@@ -1,11 +1,9 @@
 -- The entries of the Lyndon array, and where they lead.
 -- Assumes nothing.
-use mathlib.Core.Path.{_≡_, sym, _∙_}
+use mathlib.Core.Path.{_≡_}
 use mathlib.Core.List.{List}
 use Prim.Native.Nat.{ℕ, _+_, _<_}
-use native.Mathlib.Omega.{arith}
 use lib.ListN.{length, getD}
-use lib.Seq.{ext-getD}
 use Rattle.words.specs.Compute.LyndonArray.{arrayOf, arrayOf-holds}
 use Rattle.words.specs.Laws.ArrayNext.{array-next}
 use Rattle.words.specs.Laws.Compared.{AllCompared, decided-compared}
@@ -25,13 +23,6 @@ pub entry-next : (order : ℕ) (x : List ℕ) (t : ℕ) → t < length x → Nex
 unfolding entryOf
 entry-next order x t l =
     array-next (orderOf order) 0 x (letters-compared order x) (arrayOf (decided-order order) x) (arrayOf-holds (decided-order order) x) t l
-
--- A list with these entries is the Lyndon array.
-pub entries-array : (order : ℕ) (x l : List ℕ) → length l ≡ length x → ((t : ℕ) → t < length x → getD l t 0 ≡ entryOf order x t) →
-    l ≡ arrayOf (decided-order order) x
-unfolding entryOf
-entries-array order x l e h =
-    ext-getD 0 l (arrayOf (decided-order order) x) (e ∙ sym (arrayOf-holds (decided-order order) x .size)) (λ i p. h i (omega arith))
 
 -- The rows hold the entry of the position that they start at.
 pub entry-own : (order : ℕ) (x buf : List ℕ) (j : ℕ) → j < length x → RowsOf order x buf j → getD buf j 0 ≡ entryOf order x j

@@ -13,9 +13,11 @@ use Rattle.words.specs.Laws.SpanLyndon.{letters}
 use Rattle.words.specs.Laws.SuffixOrder.{NextSmaller}
 use Rattle.words.specs.Letters.{orderOf}
 use Rattle.answer.specs.Limits.{maxLength}
+use Rattle.answer.specs.Content.{Kept, From}
+use Rattle.answer.specs.ContentLaws.{kept-all, kept-then, kept-where, kept-set}
 use Rattle.array.specs.declared.joined.Joined.{Joined}
 use Rattle.array.specs.Core.Fill.{Filled}
-use Rattle.array.specs.Core.Join.{JoinReady, ChangedAfter, JoinedTo}
+use Rattle.array.specs.Core.Join.{JoinReady, Outside, JoinedTo}
 use Rattle.array.specs.Core.Joining.{LastPart, Joining}
 use Rattle.array.specs.Core.Place.{StoreReady, storedAt}
 use Rattle.array.specs.Core.Rows.{finished, entryOf, RowsOf}
@@ -25,7 +27,7 @@ use Rattle.array.proofs.Known.{agreement-short}
 
 -- Nothing is filled before the first position.
 pub filled-start : (order : ℕ) (x buf : List ℕ) → Filled order x buf buf (length x)
-filled-start order x buf = record { rows = finished refl; others = record { size = refl; kept = λ t h. refl } }
+filled-start order x buf = record { rows = finished refl; others = kept-all buf }
 
 -- What is stored at the last place of a word of two letters or more fits.
 stored-small : (order : ℕ) (x before buf : List ℕ) (i s : ℕ) (r : Joined) → JoinedTo order x before buf i r → s ≤ r .part → 1 < r .end - i →
@@ -72,7 +74,7 @@ filled-store-ready order x before₀ before buf i k r f w fits small =
 
 -- The length of the word from i is stored.
 pub filled-store : (order : ℕ) (x before₀ before after : List ℕ) (i e k g s : ℕ) → Filled order x before₀ before (i + 1) → length x ≤ length before₀ →
-    ChangedAfter before after i (length x) → Joining (orderOf order) (letters 0 x) (length x) (entryOf order x) (letters 0 after) i e k g →
+    Kept (Outside i (length x)) before after → Joining (orderOf order) (letters 0 x) (length x) (entryOf order x) (letters 0 after) i e k g →
     NextSmaller (orderOf order) (letters 0 x) (length x) i e → s ≤ k → s ≤ g → Filled order x before₀ (storedAt after i e s) i
 filled-store order x before₀ before after i e k g s f fits changed joining next a b = go (decLt 1 (e - i))
   where
@@ -84,6 +86,11 @@ filled-store order x before₀ before after i e k g s f fits changed joining nex
 
     size : length after ≡ length before₀
     size = changed .size ∙ f .others .size
+
+    others : Kept (From (length x)) before₀ (set after i (e - i))
+    others =
+        kept-then (f .others)
+        (kept-then (kept-where changed (λ t h z. omega (arith, z .1))) (kept-set after i (e - i) (λ t h y. omega (arith, p, q))))
 
     go : Dec (1 < e - i) → Filled order x before₀ (storedAt after i e s) i
     go (yes l) =
@@ -97,15 +104,7 @@ filled-store order x before₀ before after i e k g s f fits changed joining nex
               (λ t h m z.
               getD-set-other (set after i (e - i)) (e - 1) t s 0 (λ y. z (omega (arith, l), omega (arith, p))) ∙
               getD-set-other after i t (e - i) 0 (λ y. omega arith));
-          others =
-              record {
-                size = length-set (set after i (e - i)) (e - 1) s ∙ length-set after i (e - i) ∙ size;
-                kept =
-                    λ t h.
-                    getD-set-other (set after i (e - i)) (e - 1) t s 0 (λ y. omega (arith, p, q)) ∙
-                    getD-set-other after i t (e - i) 0 (λ y. omega (arith, p, q)) ∙
-                    changed .kept t (λ z. omega (arith, z .1)) ∙ f .others .kept t h;
-              };
+          others = kept-then others (kept-set (set after i (e - i)) (e - 1) s (λ t h y. omega (arith, p, q)));
         })
       where
         last : (t : ℕ) → suc t ≡ e → e - 1 ≡ t
@@ -124,13 +123,7 @@ filled-store order x before₀ before after i e k g s f fits changed joining nex
           rows =
               joining-store (entry-next order x) joining next own″ a b (λ t h z. absurd (omega (arith, l)))
               (λ t h m′ z. getD-set-other after i t (e - i) 0 (λ y. omega arith));
-          others =
-              record {
-                size = length-set after i (e - i) ∙ size;
-                kept =
-                    λ t h.
-                    getD-set-other after i t (e - i) 0 (λ y. omega (arith, p, q)) ∙ changed .kept t (λ z. omega (arith, z .1)) ∙ f .others .kept t h;
-              };
+          others = others;
         })
       where
         own″ : i + getD (set after i (e - i)) i 0 ≡ e

@@ -1,6 +1,6 @@
 -- The join loop: its start, a factor joined, and each way it ends.
 -- Assumes nothing.
-use mathlib.Core.Path.{_≡_, refl, subst, sym, ap, _∙_}
+use mathlib.Core.Path.{_≡_, subst, sym, ap, _∙_}
 use mathlib.Core.List.{List}
 use Prim.Native.Nat.{ℕ, suc, _+_, _<_, _≤_}
 use native.Mathlib.Omega.{arith}
@@ -11,6 +11,7 @@ use Rattle.words.specs.Laws.SuffixOrder.{NextSmaller}
 use Rattle.words.specs.Letters.{orderOf}
 use Rattle.letters.specs.declared.Comparison.{Comparison}
 use Rattle.letters.specs.declared.Comparison.the-variants.{Below, Same, Above}
+use Rattle.answer.specs.ContentLaws.{kept-all, kept-then, kept-where}
 use Rattle.array.specs.Core.Join.{Stopped, JoinedTo, Agreeing}
 use Rattle.array.specs.Core.Place.{restoredAt}
 use Rattle.array.specs.Core.Rows.{entryOf, RowsOf}
@@ -19,7 +20,7 @@ use Rattle.array.proofs.ComparisonEnds.{Compared}
 use Rattle.array.proofs.Entries.{entry-next, entry-own}
 use Rattle.array.proofs.JoiningLaws.{joining-start, joining-agreed, joining-step}
 use Rattle.array.proofs.Leaving.{leave-end}
-use Rattle.array.proofs.RestoredPlace.{restored-kept, restored-one, restored-length}
+use Rattle.array.proofs.RestoredPlace.{restored-others, restored-one}
 
 -- The factor at j is joined: the next state of the loop.
 pub join-step : {order : ℕ} {x before buf after : List ℕ} {i j k₀ g₀ l s k k′ : ℕ} {v : Comparison} →
@@ -29,14 +30,11 @@ join-step {order} {x} {buf = buf} {i = i} {j} {k₀} {g₀} {s = s} {k = k} {k�
     rw (changed, w .is-length)
     (record {
       changed =
-          record {
-            size = restored-length buf j m ∙ w .loop .changed .size;
-            kept =
-                λ t h. restored-kept buf j m t (λ e. h (omega (arith, w .after, nj .after), omega (arith, nj .inside))) ∙ w .loop .changed .kept t h;
-          };
+          kept-then (w .loop .changed)
+          (kept-where (restored-others buf j m) (λ t h e. h (omega (arith, w .after, nj .after), omega (arith, nj .inside))));
       joining =
           joining-step (entry-next order x)
-          (w .loop .joining) (w .inside) (w .known) (c .0 .agree) (c .1) a b (λ t p h. restored-kept buf j m t h)
+          (w .loop .joining) (w .inside) (w .known) (c .0 .agree) (c .1) a b (λ t p h. restored-others buf j m .kept t h)
           (λ t e.
           restored-one buf j m t (omega (arith, nj .inside, w .fits))
           (λ q.
@@ -59,7 +57,7 @@ join-start {order} {x} {buf} {i} l r =
     let e : i + 1 ≡ suc i = omega arith in
     subst (λ (j : ℕ). JoinLoop order x buf buf i j 0 0) (sym e)
     (record {
-      changed = record { size = refl; kept = λ t h. refl };
+      changed = kept-all buf;
       joining =
           joining-start l (subst (λ (j : ℕ). RowsOf order x buf j) e r);
     })

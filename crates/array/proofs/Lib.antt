@@ -17,7 +17,7 @@ pub mod Extension
 pub mod LeftExtension
 pub mod RunEntry
 pub mod Visiting
-pub mod PutAll
+pub mod RunList
 pub mod PassLaws
 pub mod RunsFound
 pub mod AnswerLaws

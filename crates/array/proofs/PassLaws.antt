@@ -1,6 +1,6 @@
 -- Visiting every position from the last to the first.
 -- Assumes nothing.
-use mathlib.Core.Path.{_≡_, refl, subst, sym, ap, _∙_}
+use mathlib.Core.Path.{_≡_, subst, sym, _∙_}
 use mathlib.Core.List.{List, [], _∷_, _++_}
 use Prim.Native.Nat.{ℕ, suc, _+_, _<_, _≤_, _-_, _*_}
 use native.Mathlib.Omega.{arith}
@@ -10,21 +10,21 @@ use Rattle.words.specs.Laws.RunMarks.{endBound}
 use Rattle.words.specs.Laws.SpanLyndon.{letters}
 use Rattle.words.specs.Letters.{orderOf}
 use Rattle.answer.specs.Limits.{maxLength}
-use Rattle.sorting.specs.Exchange.{put}
+use Rattle.answer.specs.ContentLaws.{kept-then, written-none, written-size, written-append, written-as}
 use Rattle.array.specs.Core.Fill.{Filled}
-use Rattle.array.specs.Core.RunPass.{putAll, Listed, skipped, listed, VisitReady, Visited, Passing}
+use Rattle.array.specs.Core.RunPass.{Listed, skipped, listed, VisitReady, Visited, Passing}
 use Rattle.array.proofs.Filling.{filled-start, filled-ready}
-use Rattle.array.proofs.PutAll.{putAll-length, putAll-append}
+use Rattle.array.proofs.RunList.{numbers-append}
 
 -- No position has been visited.
-pub passing-start : (order : ℕ) (x buf list : List ℕ) (from : ℕ) → Passing order x buf buf list list from (length x) from
-passing-start order x buf list from =
+pub passing-start : (order : ℕ) (x buf list : List ℕ) (from : ℕ) → 3 * from ≤ length list → Passing order x buf buf list list from (length x) from
+passing-start order x buf list from room =
     record {
       filled = filled-start order x buf;
       entries = [];
       lists = lists-none (orderOf order) (letters 0 x) (length x) (endBound order (length x));
       counted = omega arith;
-      content = refl;
+      content = written-none list (3 * from) room;
     }
 
 -- Position i has been visited after those from m on.
@@ -39,11 +39,7 @@ visit-more order x before buf buf′ list list′ list″ from i m count r p nex
     filled =
         record {
           rows = v .rows;
-          others =
-              record {
-                size = v .others .size ∙ p .filled .others .size;
-                kept = λ t h. v .others .kept t h ∙ p .filled .others .kept t h;
-              };
+          others = kept-then (p .filled .others) (v .others);
         }
 
     go : Listed order x list′ list″ i count r → Passing order x before buf′ list list″ from i r
@@ -53,7 +49,7 @@ visit-more order x before buf buf′ list list′ list″ from i m count r p nex
           entries = p .entries;
           lists = lists-skip (orderOf order) (letters 0 x) (length x) (endBound order (length x)) i (p .entries) lists c;
           counted = a ∙ p .counted;
-          content = b ∙ p .content;
+          content = rw (a, b) (p .content);
         }
     go (listed e a b c) =
         record {
@@ -61,9 +57,7 @@ visit-more order x before buf buf′ list list′ list″ from i m count r p nex
           entries = p .entries ++ (e ∷ []);
           lists = lists-one (orderOf order) (letters 0 x) (length x) (endBound order (length x)) i (p .entries) e lists a;
           counted = omega (arith, p .counted, length-append (p .entries) (e ∷ []));
-          content =
-              c ∙ ap (λ (l : List ℕ). put l count e) (p .content) ∙ ap (λ (k : ℕ). put (putAll list from (p .entries)) k e) (p .counted) ∙
-              sym (putAll-append list from (p .entries) (e ∷ []));
+          content = written-as (written-append (p .content) c) (sym (numbers-append (p .entries) (e ∷ [])));
         }
 
 -- One position more has been visited.
@@ -83,7 +77,7 @@ passing-end order x before buf list list′ from i count p h =
 passing-room : (order : ℕ) (x before buf list list′ : List ℕ) (from i count : ℕ) → Passing order x before buf list list′ from i count → 0 < i →
     3 * from + 3 * length x ≤ length list → 3 * count + 3 ≤ length list′
 passing-room order x before buf list list′ from i count p h fits =
-    omega (arith, p .counted, p .lists .size, ap length (p .content) ∙ putAll-length list from (p .entries))
+    omega (arith, p .counted, p .lists .size, written-size (p .content))
 
 -- What visiting the position before i asks for.
 pub passing-ready : (order : ℕ) (x before buf list list′ : List ℕ) (from i count : ℕ) → Passing order x before buf list list′ from i count →
@@ -98,4 +92,4 @@ passing-ready order x before buf list list′ from i count p fits small h q room
 -- The list keeps its length.
 pub passing-length : (order : ℕ) (x before buf list list′ : List ℕ) (from i count : ℕ) → Passing order x before buf list list′ from i count →
     length list′ ≡ length list
-passing-length order x before buf list list′ from i count p = ap length (p .content) ∙ putAll-length list from (p .entries)
+passing-length order x before buf list list′ from i count p = written-size (p .content)

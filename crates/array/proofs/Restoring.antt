@@ -1,6 +1,6 @@
 -- Giving the last places of all factors their entries back.
 -- Assumes nothing.
-use mathlib.Core.Path.{_≡_, refl, subst, sym, ap, _∙_}
+use mathlib.Core.Path.{_≡_, subst, sym, ap, _∙_}
 use mathlib.Core.List.{List}
 use Prim.Native.Nat.{ℕ, suc, _+_, _<_, _≤_}
 use native.Mathlib.Decide.{decLt}
@@ -9,12 +9,14 @@ use lib.ListN.{length, getD}
 use Rattle.words.specs.Laws.SpanLyndon.{letters}
 use Rattle.words.specs.Laws.SuffixOrder.{NextSmaller}
 use Rattle.words.specs.Letters.{Letters}
-use Rattle.array.specs.Core.Fill.{KeptFrom, HasRows, AllRestored}
+use Rattle.answer.specs.Content.{Kept, From}
+use Rattle.answer.specs.ContentLaws.{kept-all, kept-then, kept-where}
+use Rattle.array.specs.Core.Fill.{HasRows, AllRestored}
 use Rattle.array.specs.Core.Place.{restoredAt}
 use Rattle.array.specs.Core.Rows.{Rows, entryOf, RowsOf}
 use Rattle.array.proofs.Entries.{entry-next, entry-own}
 use Rattle.array.proofs.LastPlace.{restored-factor}
-use Rattle.array.proofs.RestoredPlace.{restored-kept, restored-one, restored-length}
+use Rattle.array.proofs.RestoredPlace.{restored-others, restored-one}
 use Rattle.array.proofs.RowLaws.{rows-same, front}
 
 -- Every entry below j is final, and the rows go on from j.
@@ -45,7 +47,7 @@ module _ {ℓ κ} {A : Type ℓ} {O : Letters {ℓ, κ} A} {x : ℕ → A} {n : 
 
 -- The last places below j have their entries back, for every text whose rows the buffer held.
 pub record RestoredBelow (before after : List ℕ) (n j : ℕ) : Type 0 where
-  pub others : KeptFrom before after n
+  pub others : Kept (From n) before after
   pub restoring : (order : ℕ) (x : List ℕ) → length x ≡ n → RowsOf order x before 0 →
       Restoring (letters 0 x) (length x) (entryOf order x) (letters 0 after) j
 
@@ -53,7 +55,7 @@ pub record RestoredBelow (before after : List ℕ) (n j : ℕ) : Type 0 where
 pub restored-start : (buf : List ℕ) (n : ℕ) → RestoredBelow buf buf n 0
 restored-start buf n =
     record {
-      others = record { size = refl; kept = λ t h. refl };
+      others = kept-all buf;
       restoring = λ order x e r. restoring-start r;
     }
 
@@ -83,11 +85,7 @@ restored-step before buf after n j l h w q e changed =
     let f = factor-at before buf n j l h w q e in
     rw changed
     (record {
-      others =
-          record {
-            size = restored-length buf j l ∙ w .others .size;
-            kept = λ t p. restored-kept buf j l t (λ z. omega (arith, f .ends)) ∙ w .others .kept t p;
-          };
+      others = kept-then (w .others) (kept-where (restored-others buf j l) (λ t p z. omega (arith, f .ends)));
       restoring = λ order x ex r. step f order x ex (w .restoring order x ex r);
     })
   where
@@ -98,7 +96,7 @@ restored-step before buf after n j l h w q e changed =
         let o : l ≡ entryOf order x j = e ∙ entry-own order x buf j m (r .rows) in
         subst (λ (k : ℕ). Restoring (letters 0 x) (length x) (entryOf order x) (letters 0 (restoredAt buf j l)) (j + k)) (sym o)
         (restoring-step (entry-next order x) r m
-        (λ t p z. restored-kept buf j l t (λ y. z (omega arith)))
+        (λ t p z. restored-others buf j l .kept t (λ y. z (omega arith)))
         (λ t z.
         restored-one buf j l t (omega (arith, f .ends, f .inside))
         (λ g.

@@ -1,8 +1,8 @@
 -- The run whose last root starts at a position, or that there is none.
 -- Assumes nothing.
 use mathlib.Core.Path.{_≡_, refl, subst, sym, ap, _∙_}
-use mathlib.Core.List.{List}
-use Prim.Native.Nat.{ℕ, _+_, _<_, _≤_, _-_}
+use mathlib.Core.List.{List, [], _∷_}
+use Prim.Native.Nat.{ℕ, _+_, _*_, _<_, _≤_, _-_}
 use native.Mathlib.Omega.{arith}
 use lib.ListN.{length}
 use Rattle.words.specs.Laws.Position.{Agree}
@@ -11,7 +11,7 @@ use Rattle.words.specs.Laws.RunMarks.{endBound, end-below, entry-listed, unlist
 use Rattle.words.specs.Laws.SpanLyndon.{letters}
 use Rattle.words.specs.Laws.SuffixOrder.{NextSmaller}
 use Rattle.words.specs.Letters.{orderOf}
-use Rattle.sorting.specs.Exchange.{put}
+use Rattle.answer.specs.Content.{Written}
 use Rattle.array.specs.Core.RunExtent.{LeftExtent, AtRoot}
 use Rattle.array.specs.Core.RunPass.{Listed, skipped, listed}
 
@@ -51,7 +51,7 @@ module _ (order : ℕ) (x list : List ℕ) (i j k s count : ℕ) (w : AtRoot ord
 
   -- The run is listed.
   pub run-found : j - i ≤ i - s + k → ((0 < order) → j + k < length x) → (after : List ℕ) →
-      after ≡ put list count (record { start = s; last = j + k - 1; period = j - i }) → Listed order x list after i count (count + 1)
+      Written list after (3 * count) (3 * (count + 1)) (s ∷ (j + k - 1) ∷ (j - i) ∷ []) → Listed order x list after i count (count + 1)
   run-found h early after e =
       listed (runEntry s (j + k) (j - i))
       (entry-listed (orderOf order) (letters 0 x) (length x) (endBound order (length x)) i s (j + k) (j - i)

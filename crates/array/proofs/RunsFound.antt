@@ -1,11 +1,11 @@
 -- Both passes and the sort together: the run list, and the two arrays in the work buffer.
 -- Assumes nothing.
-use mathlib.Core.Path.{_≡_, refl, sym, ap, subst, _∙_}
-use mathlib.Core.List.{List, [], _∷_, _++_, append-assoc, append-nil}
-use Prim.Native.Nat.{ℕ, suc, _+_, _-_, _*_, _≤_}
+use mathlib.Core.Path.{_≡_, sym, ap, subst, _∙_}
+use mathlib.Core.List.{List, [], _++_, append-assoc, append-nil}
+use Prim.Native.Nat.{ℕ, _+_, _-_, _*_, _≤_}
 use native.Mathlib.Omega.{arith}
-use lib.ListN.{length, set, take, drop, length-append, length-drop, drop-of-length-le}
-use lib.Seq.{set-at, take-at, drop-at, drop-drop, take-all}
+use lib.ListN.{length, take, drop, length-append, length-drop, drop-of-length-le}
+use lib.Seq.{take-at, drop-at, drop-drop, take-all}
 use Rattle.words.specs.Letters.{rising}
 use Rattle.words.specs.Decided.{decided-rising, decided-falling, decided-order}
 use Rattle.words.specs.Equality.{decided-number-equality}
@@ -15,49 +15,14 @@ use Rattle.words.specs.Laws.Runs.{run-list-unique, numbers-length}
 use Rattle.words.specs.Compute.LyndonArray.{arrayOf, arrayOf-holds}
 use Rattle.words.specs.Laws.RunSearch.{runsOf-holds}
 use Rattle.answer.specs.Checks.{written}
-use Rattle.sorting.specs.Exchange.{put}
+use Rattle.answer.specs.ContentLaws.{written-append, written-as, written-whole}
 use Rattle.sorting.specs.Triples.{sortedContent}
-use Rattle.sorting.specs.RunList.{RunsSorted, runs-sorted, sorted-member, member-sorted, sorted-length}
 use Rattle.array.specs.Calls.{runList, bothArrays}
 use Rattle.array.proofs.Entries.{letters-compared}
-use Rattle.array.specs.Core.RunPass.{putAll, Passing, OrderDone, RunsFound}
+use Rattle.array.specs.Core.RunPass.{Passing, OrderDone, RunsFound}
 use Rattle.array.specs.Core.Fill.{AllRestored}
 use Rattle.array.proofs.ArrayWritten.{array-written}
-use Rattle.array.proofs.PutAll.{putAll-append}
-
--- One entry put behind k others.
-put-behind : (p q : List ℕ) (k a b c : ℕ) (r : Entry) → length p ≡ 3 * k → put (p ++ (a ∷ b ∷ c ∷ q)) k r ≡ (p ++ numbers (r ∷ [])) ++ q
-put-behind p q k a b c r e =
-    ap (λ (l : List ℕ). set (set l (3 * k + 1) (r .last)) (3 * k + 2) (r .period)) one ∙ ap (λ (l : List ℕ). set l (3 * k + 2) (r .period)) two ∙ three
-  where
-    one : set (p ++ (a ∷ b ∷ c ∷ q)) (3 * k) (r .start) ≡ (p ++ (r .start ∷ [])) ++ (b ∷ c ∷ q)
-    one = set-at p a (b ∷ c ∷ q) (r .start) (3 * k) e ∙ simp append-assoc
-
-    two : set ((p ++ (r .start ∷ [])) ++ (b ∷ c ∷ q)) (3 * k + 1) (r .last) ≡ (p ++ (r .start ∷ r .last ∷ [])) ++ (c ∷ q)
-    two =
-        set-at (p ++ (r .start ∷ [])) b (c ∷ q) (r .last) (3 * k + 1) (omega (arith, length-append p (r .start ∷ []))) ∙ simp append-assoc
-
-    three : set ((p ++ (r .start ∷ r .last ∷ [])) ++ (c ∷ q)) (3 * k + 2) (r .period) ≡ (p ++ numbers (r ∷ [])) ++ q
-    three =
-        set-at (p ++ (r .start ∷ r .last ∷ [])) c q (r .period) (3 * k + 2) (omega (arith, length-append p (r .start ∷ r .last ∷ []))) ∙ simp append-assoc
-
--- Entries written behind p are their numbers, and what is left of q.
-putAll-behind : (rs : List Entry) (p q : List ℕ) (k : ℕ) → length p ≡ 3 * k → 3 * length rs ≤ length q →
-    putAll (p ++ q) k rs ≡ p ++ (numbers rs ++ drop (3 * length rs) q)
-putAll-behind [] p q k e h = refl
-putAll-behind (r ∷ rs) p [] k e h = absurd (omega arith)
-putAll-behind (r ∷ rs) p (a ∷ []) k e h = absurd (omega arith)
-putAll-behind (r ∷ rs) p (a ∷ b ∷ []) k e h = absurd (omega arith)
-putAll-behind (r ∷ rs) p (a ∷ b ∷ c ∷ q) k e h =
-    let z : 3 * suc (length rs) ≡ suc (suc (suc (3 * length rs))) = omega arith in
-    ap (λ (l : List ℕ). putAll l (suc k) rs) (put-behind p q k a b c r e) ∙
-    putAll-behind rs (p ++ numbers (r ∷ [])) q (suc k) (omega (arith, length-append p (numbers (r ∷ [])))) (omega arith) ∙
-    rw z (append-assoc p (numbers (r ∷ [])) (numbers rs ++ drop (3 * length rs) q))
-
--- Entries written from the start.
-pub putAll-written : (l : List ℕ) (rs : List Entry) → 3 * length rs ≤ length l → putAll l 0 rs ≡ written (numbers rs) l
-putAll-written l rs h =
-    putAll-behind rs [] l 0 refl h ∙ ap (λ (m : ℕ). numbers rs ++ drop m l) (sym (numbers-length rs))
+use Rattle.array.proofs.RunList.{RunsSorted, runs-sorted, numbers-append, sorted-member, member-sorted, sorted-length}
 
 module _ (x : List ℕ) (work work₁ part list list₁ list₂ list₃ : List ℕ) (first count : ℕ)
     (a : OrderDone 0 x work work₁ list list₁ 0 first)
@@ -67,12 +32,7 @@ module _ (x : List ℕ) (work work₁ part list list₁ list₂ list₃ : List �
   once = each-run-once rising 0 x (letters-compared 0 x) (a .entries) (b .entries) (a .lists) (b .lists)
 
   found : list₂ ≡ written (numbers (a .entries ++ b .entries)) list
-  found =
-      b .content ∙ ap (λ (l : List ℕ). putAll l first (b .entries)) (a .content) ∙
-      ap (λ (k : ℕ). putAll (putAll list 0 (a .entries)) k (b .entries)) (a .counted) ∙
-      sym (putAll-append list 0 (a .entries) (b .entries)) ∙
-      putAll-written list (a .entries ++ b .entries)
-      (omega (arith, length-append (a .entries) (b .entries), a .lists .size, b .lists .size))
+  found = written-whole (written-as (written-append (a .content) (b .content)) (sym (numbers-append (a .entries) (b .entries))))
 
   number : count ≡ length (a .entries ++ b .entries)
   number = omega (arith, a .counted, b .counted, length-append (a .entries) (b .entries))

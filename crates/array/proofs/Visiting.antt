@@ -14,6 +14,7 @@ use Rattle.words.specs.Laws.SuffixOrder.{NextSmaller, agree-less}
 use Rattle.words.specs.Letters.{orderOf}
 use Rattle.letters.specs.declared.Comparison.{Comparison}
 use Rattle.letters.specs.declared.Comparison.the-variants.{Below, Same, Above}
+use Rattle.answer.specs.ContentLaws.{kept-all}
 use Rattle.array.specs.declared.joined.Joined.{Joined}
 use Rattle.array.specs.Core.Fill.{Filled}
 use Rattle.array.specs.Core.Join.{SameWord, Stopped, JoinedTo, Agreeing}
@@ -114,7 +115,7 @@ pub visited : (order : ℕ) (x before buf after list list′ : List ℕ) (i k co
     length x ≤ length before → JoinedTo order x before buf i r → ExtendedTo x i (r .end) k (r .stop) →
     after ≡ storedAt buf i (r .end) (min k (r .part)) → Listed order x list list′ i count m → Visited order x before after list list′ i count m
 visited order x before buf after list list′ i k count m r rows fits w e stored l =
-    let kept : Filled order x before before (i + 1) = record { rows = rows; others = record { size = refl; kept = λ t h. refl } } in
+    let kept : Filled order x before before (i + 1) = record { rows = rows; others = kept-all before } in
     let f =
     filled-store order x before before buf i (r .end) k (r .part) (min k (r .part)) kept fits (w .changed)
     (extended-joining order x before buf i r w k e) (w .next) (omega arith) (omega arith) in

@@ -7,10 +7,11 @@ use answer::Reason;
 use answer::limits;
 use letters::Comparison;
 ghost use mathlib.Core.Path.{_≡_};
+ghost use mathlib.Core.List.{[], _∷_};
 ghost use Prim.Native.Nat.{_+_, _-_, _*_, _≤_, _<_};
 ghost use lib.ListN.{length};
 ghost use Rattle.answer.specs.Limits.{maxLength};
-ghost use Rattle.sorting.specs.Exchange.{put};
+ghost use Rattle.answer.specs.Content.{Written};
 ghost use Rattle.array.specs.Core.RunExtent.{StoppedAt, ExtendedTo, LeftExtent, AtRoot};
 ghost use Rattle.array.specs.Core.RunPass.{Listed, VisitReady, Visited, Passing, OrderDone, RunsFound};
 ghost use Rattle.array.specs.Calls.{runsAnswer, runNumbers, bothArrays};
@@ -64,7 +65,7 @@ fn start_of(text: &[u8], i: usize, p: usize) -> usize
 // Writes an entry of the list.
 fn write_entry(list: &mut [u32], count: usize, start: usize, last: usize, period: usize)
     requires { ⌜ (3 * count + 3 ≤ length (now list)) × (start ≤ maxLength) × (last ≤ maxLength) × (period ≤ maxLength) ⌝ }
-    ensures content { λ r. ⌜ now (list .exit) ≡ put (now (list .entry)) count (record { start = start; last = last; period = period }) ⌝ }
+    ensures content { λ r. ⌜ Written (now (list .entry)) (now (list .exit)) (3 * count) (3 * (count + 1)) (start ∷ last ∷ period ∷ []) ⌝ }
 {
     list[3 * count] = start as u32;
     list[3 * count + 1] = last as u32;

@@ -14,11 +14,11 @@ use Rattle.words.specs.Laws.SpanLyndon.{letters}
 use Rattle.words.specs.Laws.LongestEnding.{LongestEnding, longest-ending}
 use Rattle.words.specs.Laws.LeftForest.{Uncrossed, LeftRecords, longest-nested, records-left-forest}
 use Rattle.words.specs.Laws.ForestUnique.{left-forest-unique}
+use Rattle.answer.specs.ContentLaws.{kept-then, kept-where, written-places}
 use Rattle.factors.specs.Default.{defaultOrder, decided-default}
 use Rattle.factors.specs.TextRoom.{TextRoom}
 use Rattle.factors.specs.Results.{Tabled, Grown}
 use Rattle.factors.specs.Links.{startIn, Descends, Linked, Linkable, Crossed, OwnRoots}
-use Rattle.factors.proofs.Written.{written-places}
 
 module _ (x first past table : List ℕ) (room-first : TextRoom x first) (room-past : TextRoom x past) (w : Tabled x past table (length x)) where
   table-start : (t : ℕ) → (l : t < length x) → w .entry t l .start ≡ startIn table t
@@ -36,7 +36,7 @@ module _ (x first past table : List ℕ) (room-first : TextRoom x first) (room-p
       record {
         short = room-first .short;
         in-first = room-first .places;
-        in-past = omega (arith, room-past .places, w .size);
+        in-past = omega (arith, room-past .places, w .others .size);
         positive = λ t l. omega (arith, table-longest t l .lyndon .non-empty);
         fits = λ t l. omega (arith, w .entry t l .ends);
         nested = longest-nested defaultOrder (letters 0 x) (length x) (startIn table) table-longest;
@@ -60,8 +60,8 @@ module _ (x first past table : List ℕ) (room-first : TextRoom x first) (room-p
     crossed-descends =
         record {
           small = omega (arith, room-first .short, last-below, at);
-          in-first = omega (arith, room-first .places, c .first-size, last-below, at);
-          in-past = omega (arith, room-past .places, w .size, c .past-size, last-below, at);
+          in-first = omega (arith, room-first .places, c .in-first .size, last-below, at);
+          in-past = omega (arith, room-past .places, w .others .size, c .in-past .size, last-below, at);
           down = λ i l. omega (arith, c .link i (omega (arith, last-below, at)), start-below i (omega (arith, last-below, at)));
         }
 
@@ -74,7 +74,7 @@ module _ (x first past table : List ℕ) (room-first : TextRoom x first) (room-p
           here = c .here e at;
         }
 
-    module _ (first₂ past₂ : List ℕ) (first-size : length first₂ ≡ length first₁) (past-size : length past₂ ≡ length past₁)
+    module _ (first₂ past₂ : List ℕ)
         (roots-first : (start : ℕ → ℕ) (k : ℕ) → Linked start first₁ k last → OwnRoots start first₁ first₂ k)
         (roots-past : (start : ℕ → ℕ) (k : ℕ) → Linked start first₁ k last → OwnRoots start past₁ past₂ k) where
       in-first : OwnRoots (startIn table) first₁ first₂ e
@@ -104,10 +104,10 @@ module _ (x first past table : List ℕ) (room-first : TextRoom x first) (room-p
           }
 
       first-long : length x ≤ length first₂
-      first-long = omega (arith, first-size, c .first-size, room-first .places)
+      first-long = omega (arith, in-first .others .size, c .in-first .size, room-first .places)
 
       past-long : length x ≤ length past₂
-      past-long = omega (arith, past-size, c .past-size, w .size, room-past .places)
+      past-long = omega (arith, in-past .others .size, c .in-past .size, w .others .size, room-past .places)
 
       forest : IsLeftForest defaultOrder x (take (length x) first₂) (take (length x) past₂)
       forest =
@@ -122,15 +122,11 @@ module _ (x first past table : List ℕ) (room-first : TextRoom x first) (room-p
           let q = left-forest-unique forest g in
           record {
             in-first =
-                written-places (leftFirstOf decided-default x s) first first₂ (omega (arith, g .first-size, room-first .places))
-                (first-size ∙ c .first-size)
-                (λ t l. sym (taken first₂ t (omega (arith, g .first-size))) ∙ ap (λ (m : List ℕ). getD m t 0) (q .0))
-                (λ t l. in-first .rest t (omega (arith, g .first-size, at)) ∙ c .first-rest t (omega (arith, g .first-size)));
+                written-places (leftFirstOf decided-default x s) (length x) first first₂ (g .first-size) (room-first .places)
+                (kept-then (c .in-first) (kept-where (in-first .others) (λ t l. omega (arith, at))))
+                (λ t l. sym (taken first₂ t l) ∙ ap (λ (m : List ℕ). getD m t 0) (q .0));
             in-past =
-                written-places (leftPastOf decided-default x s) past past₂ (omega (arith, g .past-size, room-past .places))
-                (past-size ∙ c .past-size ∙ w .size)
-                (λ t l. sym (taken past₂ t (omega (arith, g .past-size))) ∙ ap (λ (m : List ℕ). getD m t 0) (q .1))
-                (λ t l.
-                in-past .rest t (omega (arith, g .past-size, at)) ∙ c .past-rest t (omega (arith, g .past-size)) ∙
-                w .past t (omega (arith, g .past-size)));
+                written-places (leftPastOf decided-default x s) (length x) past past₂ (g .past-size) (room-past .places)
+                (kept-then (w .others) (kept-then (c .in-past) (kept-where (in-past .others) (λ t l. omega (arith, at)))))
+                (λ t l. sym (taken past₂ t l) ∙ ap (λ (m : List ℕ). getD m t 0) (q .1));
           }

@@ -1,7 +1,6 @@
 pub mod Scanning
 pub mod Listing
 pub mod Tabling
-pub mod Written
 pub mod Linking
 pub mod Rooting
 pub mod Growing

@@ -8,6 +8,8 @@ use native.Mathlib.Decide.{decLt, ℕ-discrete}
 use lib.ListN.{length, getD, set, length-set}
 use lib.Seq.{getD-set-same, getD-set-other}
 use Rattle.words.specs.Laws.LeftForest.{Uncrossed, FirstCrossing, start-uncrossed}
+use Rattle.answer.specs.Content.{Kept, From}
+use Rattle.answer.specs.ContentLaws.{kept-all, kept-then, kept-where, kept-set}
 use Rattle.factors.specs.Links.{startIn, Descends, Linked, Closes, Linkable, Crossed}
 
 -- A position that a word before e crosses is not uncrossed up to e.
@@ -19,18 +21,17 @@ pub record ClosedTo (start : ℕ → ℕ) (before out : List ℕ) (e t : ℕ) : 
   pub uncrossed : Uncrossed start e t
   pub closed : (j : ℕ) → t < j → FirstCrossing start j e → getD out j 0 ≡ suc e
   pub done : (j d : ℕ) → d < e → FirstCrossing start j d → getD out j 0 ≡ getD before j 0
-  pub later : (k : ℕ) → e < k → getD out k 0 ≡ getD before k 0
 
 -- What holds at each turn of the loop that closes them.
 pub record Closing (first before out : List ℕ) (e last t : ℕ) : Type 0 where
-  pub size : length out ≡ length before
+  pub others : Kept (From (suc e)) before out
   pub reached : t ≤ e
   pub holds : (start : ℕ → ℕ) → Linked start first e last → ClosedTo start before out e t
 
 pub closing-start : (first past : List ℕ) (e last : ℕ) → Closing first past past e last e
 closing-start first past e last =
     record {
-      size = refl;
+      others = kept-all past;
       reached = omega arith;
       holds =
           λ start w.
@@ -38,7 +39,6 @@ closing-start first past e last =
             uncrossed = λ t p q. absurd (omega arith);
             closed = λ j p q. absurd (omega (arith, q .from));
             done = λ j d p q. refl;
-            later = λ k p. refl;
           };
     }
 
@@ -55,7 +55,7 @@ module _ (first before out : List ℕ) (e last t : ℕ) (d : Descends first befo
   pub closing-step : last < t → Closing first before (set out t (e + 1)) e last (getD first t 0)
   closing-step l =
       record {
-        size = length-set out t (e + 1) ∙ w .size;
+        others = kept-then (w .others) (kept-set out t (e + 1) (λ j p r. omega (arith, w .reached)));
         reached = omega (arith, closing-falls l, w .reached);
         holds = λ start k. step start k (w .holds start k);
       }
@@ -75,7 +75,6 @@ module _ (first before out : List ℕ) (e last t : ℕ) (d : Descends first befo
                 (subst (λ (m : ℕ). Uncrossed start e m) (sym at) (h .uncrossed)));
             closed = λ j p q. close-at j p q (ℕ-discrete j t);
             done = λ j m p q. getD-set-other out t j (e + 1) 0 (crossed-differs start j m e t q p (h .uncrossed)) ∙ h .done j m p q;
-            later = λ j p. getD-set-other out t j (e + 1) 0 (λ r. omega (arith, w .reached)) ∙ h .later j p;
           }
         where
           link : getD first t 0 ≡ start i
@@ -84,7 +83,7 @@ module _ (first before out : List ℕ) (e last t : ℕ) (d : Descends first befo
           close-at : (j : ℕ) → getD first t 0 < j → FirstCrossing start j e → Dec (j ≡ t) → getD (set out t (e + 1)) j 0 ≡ suc e
           close-at j p q (yes r) =
               ap (λ (m : ℕ). getD (set out t (e + 1)) m 0) r ∙
-              getD-set-same out t (e + 1) 0 (omega (arith, w .reached, w .size, d .in-past)) ∙ omega arith
+              getD-set-same out t (e + 1) 0 (omega (arith, w .reached, w .others .size, d .in-past)) ∙ omega arith
           close-at j p q (no r) = getD-set-other out t j (e + 1) 0 r ∙ h .closed j (above (decLt t j)) q
             where
               above : Dec (t < j) → t < j
@@ -98,21 +97,19 @@ module _ (first before out : List ℕ) (e last t : ℕ) (d : Descends first befo
       record {
         closed = λ j q. h .closed j (omega (arith, q .crosses, k .here)) q;
         done = h .done;
-        later = h .later;
+        others = w .others;
       }
 
 -- No word has been read.
 pub crossed-none : (first table : List ℕ) → Crossed first table first table 0 0
 crossed-none first table =
     record {
-      first-size = refl;
-      past-size = refl;
       small = omega arith;
       link = λ i p. absurd (omega arith);
       here = λ i p. absurd (omega arith);
       closed = λ j d p q. absurd (omega arith);
-      first-rest = λ t p. refl;
-      past-rest = λ t p. refl;
+      in-first = kept-all first;
+      in-past = kept-all table;
     }
 
 -- What holds at each turn of the loop that reads the words.
@@ -127,10 +124,10 @@ start-at-most before table n k i l = omega (arith, k .positive i l, k .fits i l)
 module _ (before table first past : List ℕ) (n e last : ℕ) (k : Linkable before table n) (w : Crossed before table first past e last) (l : e < n) where
   -- The entry at e is still there.
   pub entry-fits : getD past e 0 ≤ e + 1
-  entry-fits = omega (arith, w .past-rest e (omega arith), k .fits e l)
+  entry-fits = omega (arith, w .in-past .kept e (omega arith), k .fits e l)
 
   in-buffer : e < length first
-  in-buffer = omega (arith, w .first-size, k .in-first)
+  in-buffer = omega (arith, w .in-first .size, k .in-first)
 
   -- FIRST with the start of the word that ends before e.
   link-at : (i : ℕ) → i < e → getD (set first e last) (suc i) 0 ≡ startIn table i
@@ -146,13 +143,13 @@ module _ (before table first past : List ℕ) (n e last : ℕ) (k : Linkable bef
       record {
         small = omega (arith, k .short);
         in-first = omega (arith, length-set first e last, in-buffer);
-        in-past = omega (arith, w .past-size, k .in-past);
+        in-past = omega (arith, w .in-past .size, k .in-past);
         down = λ i p. omega (arith, link-at i p, start-at-most before table n k i (omega arith));
       }
 
   module _ (v : ℕ) (is : v ≡ e + 1 - getD past e 0) where
     start-here : startIn table e ≡ v
-    start-here = omega (arith, w .past-rest e (omega arith))
+    start-here = omega (arith, w .in-past .kept e (omega arith))
 
     reading-linked : Linked (startIn table) (set first e last) e v
     reading-linked =
@@ -164,14 +161,12 @@ module _ (before table first past : List ℕ) (n e last : ℕ) (k : Linkable bef
         }
 
     -- The word that ends at e has been read.
-    pub crossed-step : (past′ : List ℕ) → length past′ ≡ length past →
+    pub crossed-step : (past′ : List ℕ) →
         ((start : ℕ → ℕ) → Linked start (set first e last) e v → Closes start past past′ e) →
         Crossed before table (set first e last) past′ (e + 1) v
-    crossed-step past′ size f =
+    crossed-step past′ f =
         let h : Closes (startIn table) past past′ e = f (startIn table) reading-linked in
         record {
-          first-size = length-set first e last ∙ w .first-size;
-          past-size = size ∙ w .past-size;
           small = omega (arith, start-here, start-at-most before table n k e l);
           link = λ i p. link-at i (omega arith);
           here =
@@ -179,8 +174,8 @@ module _ (before table first past : List ℕ) (n e last : ℕ) (k : Linkable bef
               let q : e ≡ i = omega arith in
               subst (λ (m : ℕ). startIn table m ≡ v) q start-here;
           closed = λ j d p q. close-at h j d p q (ℕ-discrete d e);
-          first-rest = λ t p. getD-set-other first e t last 0 (λ q. omega arith) ∙ w .first-rest t (omega arith);
-          past-rest = λ t p. h .later t (omega arith) ∙ w .past-rest t (omega arith);
+          in-first = kept-then (kept-where (w .in-first) (λ t p. omega arith)) (kept-set first e last (λ t p q. omega arith));
+          in-past = kept-then (kept-where (w .in-past) (λ t p. omega arith)) (kept-where (h .others) (λ t p. omega arith));
         }
       where
         close-at : Closes (startIn table) past past′ e → (j d : ℕ) → d < e + 1 → FirstCrossing (startIn table) j d → Dec (d ≡ e) →

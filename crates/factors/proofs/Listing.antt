@@ -1,13 +1,14 @@
 -- What holds at each turn of the loop that lists the factors.
 -- Assumes nothing.
-use mathlib.Core.Path.{_≡_, refl, sym, ap, subst, _∙_}
+use mathlib.Core.Path.{_≡_, sym, ap, subst, _∙_}
 use mathlib.Core.List.{List, [], _∷_, _++_, append-assoc, append-nil}
-use Prim.Native.Nat.{ℕ, suc, _+_, _-_, _<_, _≤_}
+use Prim.Native.Nat.{ℕ, _+_, _-_, _<_, _≤_}
 use native.Mathlib.Omega.{arith}
-use lib.ListN.{length, drop, set, length-append, length-drop, getD}
-use lib.Seq.{set-at, drop-cons}
+use lib.ListN.{length, set}
 use Rattle.words.specs.Compute.Factorization.{factorizationOf}
 use Rattle.answer.specs.Limits.{maxLength}
+use Rattle.answer.specs.Content.{Written}
+use Rattle.answer.specs.ContentLaws.{written-none, written-one, written-size, written-append, written-as, written-whole}
 use Rattle.factors.specs.declared.scan.Stretch.{Stretch}
 use Rattle.factors.specs.Default.{decided-default}
 use Rattle.factors.specs.Duval.{stretchAt, factorsFrom, duval}
@@ -19,35 +20,27 @@ use Rattle.factors.specs.Results.{FactorsListed}
 -- `count` factors are listed and stand in the buffer; those that follow from `start` on are the rest of Duval's list.
 pub record Listing (x before out : List ℕ) (count start : ℕ) (s : Stretch) : Type 0 where
   pub listed : List ℕ
-  pub size : length listed ≡ count
   pub rest : listed ++ factorsFrom decided-default 0 x (length x - count) start s ≡ duval decided-default 0 x
   pub behind : count ≤ start
   pub inside : start ≤ length x
   pub kept : Kept (length x) s
   pub small : s .period ≤ maxLength
-  pub content : out ≡ listed ++ drop count before
+  pub content : Written before out 0 count listed
 
 pub listing-start : (x out : List ℕ) → Listing x out out 0 0 (record { period = 1; end = 0 })
 listing-start x out =
     let e : length x - 0 ≡ length x = omega arith in
     record {
       listed = [];
-      size = refl;
       rest = rw e;
       behind = omega arith;
       inside = omega arith;
       kept = record { positive = omega arith; inside = omega arith };
       small = omega arith;
-      content = refl;
+      content = written-none out 0 (omega arith);
     }
 
 module _ (x before out : List ℕ) (count start : ℕ) (s : Stretch) (room : TextRoom x before) (w : Listing x before out count start s) where
-  -- The buffer keeps its length.
-  pub listing-length : length out ≡ length before
-  listing-length =
-      ap length (w .content) ∙ length-append (w .listed) (drop count before) ∙
-      omega (arith, length-drop count before, w .size, w .behind, w .inside, room .places)
-
   -- The next factor ends inside the text.
   pub listing-next : start < length x → (t : Stretch) → t ≡ stretchAt decided-default 0 x start s → Bounded (length x) start t
   listing-next l t e = subst (λ (r : Stretch). Bounded (length x) start r) (sym e) (stretch-bounded decided-default 0 x start s l (w .kept))
@@ -57,11 +50,9 @@ module _ (x before out : List ℕ) (count start : ℕ) (s : Stretch) (room : Tex
       Listing x before (set out count start) (count + 1) (start + t .period) t
   listing-step l t e =
       let b : Bounded (length x) start t = listing-next l t e in
-      let f : count < length before = omega (arith, w .behind, room .places) in
-      let o : suc count ≡ count + 1 = omega arith in
+      let f : count < length out = omega (arith, w .behind, room .places, written-size (w .content)) in
       record {
         listed = w .listed ++ (start ∷ []);
-        size = length-append (w .listed) (start ∷ []) ∙ omega (arith, w .size);
         rest =
             append-assoc (w .listed) (start ∷ []) (factorsFrom decided-default 0 x (length x - (count + 1)) (start + t .period) t) ∙
             ap (λ (r : List ℕ). w .listed ++ r) (sym (subst (λ (r : Stretch). factorsFrom decided-default 0 x (length x - count) start s ≡
@@ -72,11 +63,7 @@ module _ (x before out : List ℕ) (count start : ℕ) (s : Stretch) (room : Tex
         inside = omega (arith, b .whole, b .inside);
         kept = record { positive = b .positive; inside = b .inside };
         small = omega (arith, b .whole, b .inside, room .short);
-        content =
-            ap (λ (l : List ℕ). set l count start) (w .content ∙ ap (λ (l : List ℕ). w .listed ++ l) (drop-cons before count 0 f)) ∙
-            set-at (w .listed) (getD before count 0) (drop (suc count) before) start count (w .size) ∙
-            ap (λ (k : ℕ). w .listed ++ (start ∷ drop k before)) o ∙
-            sym (append-assoc (w .listed) (start ∷ []) (drop (count + 1) before));
+        content = written-append (w .content) (written-one out count start f);
       }
 
   -- All factors are listed.
@@ -89,9 +76,4 @@ module _ (x before out : List ℕ) (count start : ℕ) (s : Stretch) (room : Tex
   pub listing-end : length x ≤ start → FactorsListed x before out count
   listing-end l =
       let e : w .listed ≡ factorizationOf decided-default x = all-listed l ∙ duval-factorization decided-default 0 x in
-      record {
-        counted = sym (w .size) ∙ ap length e;
-        content =
-            w .content ∙ ap (λ (k : ℕ). w .listed ++ drop k before) (sym (w .size)) ∙
-            ap (λ (r : List ℕ). r ++ drop (length r) before) e;
-      }
+      record { counted = omega (arith, w .content .past, ap length e); content = written-whole (written-as (w .content) e) }

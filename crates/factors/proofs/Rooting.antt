@@ -5,28 +5,28 @@ use mathlib.Core.List.{List}
 use Prim.Native.Nat.{ℕ, suc, _-_, _<_, _≤_}
 use native.Mathlib.Omega.{arith}
 use native.Mathlib.Decide.{decLt, ℕ-discrete}
-use lib.ListN.{length, getD, set, length-set}
+use lib.ListN.{length, getD, set}
 use lib.Seq.{getD-set-same, getD-set-other}
 use Rattle.words.specs.Laws.LeftForest.{Uncrossed, FirstCrossing, start-uncrossed}
+use Rattle.answer.specs.Content.{Kept, From}
+use Rattle.answer.specs.ContentLaws.{kept-all, kept-then, kept-where, kept-set}
 use Rattle.factors.specs.Links.{Descends, Linked, OwnRoots}
 
 -- Marking has come down to t in a buffer: the positions up to e behind t that no word crosses hold themselves.
 pub record MarkedTo (start : ℕ → ℕ) (before out : List ℕ) (e t : ℕ) : Type 0 where
   pub own : (j : ℕ) → t < j → j ≤ e → Uncrossed start (suc e) j → getD out j 0 ≡ j
   pub kept : (j d : ℕ) → d ≤ e → FirstCrossing start j d → getD out j 0 ≡ getD before j 0
-  pub rest : (k : ℕ) → e < k → getD out k 0 ≡ getD before k 0
+  pub others : Kept (From (suc e)) before out
 
 -- What holds at each turn of the loop, of a buffer before and now.
 pub record Marking (first before out : List ℕ) (last t : ℕ) : Type 0 where
-  pub size : length out ≡ length before
-  pub intact : (k : ℕ) → k ≤ t → getD out k 0 ≡ getD before k 0
+  pub intact : Kept (λ k. k ≤ t) before out
   pub holds : (start : ℕ → ℕ) (e : ℕ) → Linked start first e last → Uncrossed start (suc e) t × (t ≤ e) × MarkedTo start before out e t
 
 pub marking-start : (first before : List ℕ) (last : ℕ) → Marking first before before last last
 marking-start first before last =
     record {
-      size = refl;
-      intact = λ k p. refl;
+      intact = kept-all before;
       holds =
           λ start e w. (
             λ t p q.
@@ -35,7 +35,7 @@ marking-start first before last =
             record {
               own = λ j p q h. absurd (omega (arith, w .here, h e q (omega arith)));
               kept = λ j d p q. refl;
-              rest = λ k p. refl;
+              others = kept-all before;
             },
           );
     }
@@ -50,8 +50,7 @@ module _ (first before out : List ℕ) (last t next : ℕ) (w : Marking first be
   pub marking-step : Marking first before (set out t t) last next
   marking-step =
       record {
-        size = length-set out t t ∙ w .size;
-        intact = λ k p. getD-set-other out t k t 0 (λ q. omega (arith, falls)) ∙ w .intact k (omega (arith, falls));
+        intact = kept-then (kept-where (w .intact) (λ k p. omega (arith, falls))) (kept-set out t t (λ k p q. omega (arith, falls)));
         holds = λ start e k. step start e k (w .holds start e k);
       }
     where
@@ -71,7 +70,7 @@ module _ (first before out : List ℕ) (last t next : ℕ) (w : Marking first be
         record {
           own = λ j p q u. mark-at j p q u (ℕ-discrete j t);
           kept = λ j d p q. getD-set-other out t j t 0 (rooted-differs start j d e t q p (h .0)) ∙ h .2 .kept j d p q;
-          rest = λ j p. getD-set-other out t j t 0 (λ q. omega (arith, h .1)) ∙ h .2 .rest j p;
+          others = kept-then (h .2 .others) (kept-set out t t (λ j p q. omega (arith, h .1)));
         },
       )
         where
@@ -93,7 +92,7 @@ marking-end first before out last t w l room start e k =
     record {
       own = λ j p q. at j p q (ℕ-discrete j 0);
       kept = λ j d p q. getD-set-other out 0 j 0 0 (λ r. omega (arith, q .crosses)) ∙ h .kept j d p q;
-      rest = λ j p. getD-set-other out 0 j 0 0 (λ r. omega arith) ∙ h .rest j p;
+      others = kept-then (h .others) (kept-set out 0 0 (λ j p r. omega arith));
     }
   where
     h : MarkedTo start before out e t
@@ -120,14 +119,14 @@ module _ (first past first′ past′ : List ℕ) (last t : ℕ) (d : Descends f
       let i : ℕ = t - 1 in
       let q : suc i ≡ t = omega arith in
       let f : getD first (suc i) 0 ≤ i = d .down i (omega (arith, w .reached)) in
-      omega (arith, ap (λ (k : ℕ). getD first k 0) q, w .in-first .intact t (omega arith))
+      omega (arith, ap (λ (k : ℕ). getD first k 0) q, w .in-first .intact .kept t (omega arith))
 
   pub rooting-step : (next : ℕ) → 0 < t → next ≡ getD first′ t 0 → Rooting first past (set first′ t t) (set past′ t t) last next
   rooting-step next l e =
       let f : next < t = omega (arith, rooting-falls l) in
-      let k : next ≡ getD first t 0 = e ∙ w .in-first .intact t (omega arith) in
+      let k : next ≡ getD first t 0 = e ∙ w .in-first .intact .kept t (omega arith) in
       record {
         reached = omega (arith, w .reached);
-        in-first = marking-step first first first′ last t next (w .in-first) l (omega (arith, w .reached, d .in-first, w .in-first .size)) k f;
-        in-past = marking-step first past past′ last t next (w .in-past) l (omega (arith, w .reached, d .in-past, w .in-past .size)) k f;
+        in-first = marking-step first first first′ last t next (w .in-first) l (omega (arith, w .reached, d .in-first, w .in-first .intact .size)) k f;
+        in-past = marking-step first past past′ last t next (w .in-past) l (omega (arith, w .reached, d .in-past, w .in-past .intact .size)) k f;
       }

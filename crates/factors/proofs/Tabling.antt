@@ -1,6 +1,6 @@
 -- What holds at each turn of the loop that fills the suffix table during a scan.
 -- Assumes nothing.
-use mathlib.Core.Path.{_≡_, refl, sym, subst, _∙_}
+use mathlib.Core.Path.{_≡_, sym, subst, _∙_}
 use mathlib.Core.Logic.{inl, inr}
 use mathlib.Core.List.{List}
 use Prim.Native.Nat.{ℕ, suc, _+_, _-_, _<_, _≤_}
@@ -9,11 +9,16 @@ use native.Mathlib.Decide.{ℕ-discrete}
 use lib.ListN.{length, getD, set, length-set}
 use lib.Seq.{getD-set-same, getD-set-other}
 use Rattle.words.specs.Decided as words
-use Rattle.words.specs.SuffixTable.{LongestTo}
+use Rattle.words.specs.SuffixTable.{LongestTo, IsSuffixTable}
+use Rattle.words.specs.Compute.SuffixTable.{suffixTableOf, suffixTableOf-holds}
+use Rattle.words.specs.Laws.Unique.{longest-to-unique}
 use Rattle.words.specs.Laws.SpanLyndon.{letters}
 use Rattle.words.specs.Laws.Repetition.{Repetition, letter-lyndon, repetition-start, repetition-longer, repetition-extended, lyndon-extended}
 use Rattle.words.specs.Laws.LowestSuffix.{Lowest, lowest-first, lowest-next}
 use Rattle.words.specs.Laws.LongestEnding.{LongestEnding, lowest-longest, repetition-longest, longest-ending, ending-longest}
+use Rattle.answer.specs.Checks.{written}
+use Rattle.answer.specs.Content.{Kept, From}
+use Rattle.answer.specs.ContentLaws.{kept-all, kept-then, kept-set, written-places}
 use Rattle.letters.specs.declared.Comparison.{Comparison}
 use Rattle.letters.specs.declared.Comparison.the-variants.{Below, Same, Above}
 use Rattle.letters.specs.Compared.{comparisonOf}
@@ -41,9 +46,8 @@ pub tabled-more : (x before out : List ℕ) (e v : ℕ) → Tabled x before out 
     Tabled x before (set out e v) (e + 1)
 tabled-more x before out e v w l m h =
     record {
-      size = length-set out e v ∙ w .size;
       entry = λ t q. at t q (ℕ-discrete t e);
-      past = λ t q. getD-set-other out e t v 0 (λ r. omega arith) ∙ w .past t q;
+      others = kept-then (w .others) (kept-set out e v (λ t q r. omega arith));
     }
   where
     at : (t : ℕ) → t < e + 1 → Dec (t ≡ e) → LongestTo defaultOrder x t (getD (set out e v) t 0)
@@ -59,7 +63,7 @@ pub filling-start : (x out : List ℕ) (start : ℕ) → TextRoom x out → Star
 filling-start x out start room s =
     let e : suc start ≡ start + 1 = omega arith in
     let first : Tabled x out (set out start 1) (start + 1) =
-    tabled-more x out out start 1 (record { size = refl; entry = s .entry; past = λ t q. refl }) (s .inside)
+    tabled-more x out out start 1 (record { entry = s .entry; others = kept-all out }) (s .inside)
     (omega (arith, s .inside, room .places))
     (ending-longest defaultOrder 0 x start 1 start (s .inside) (omega arith)
     (lowest-longest defaultOrder (letters 0 x) (length x) start (s .lowest) (suc start) (s .inside)
@@ -68,7 +72,7 @@ filling-start x out start room s =
       repetition = subst (λ (k : ℕ). Repetition defaultOrder (letters 0 x) start 1 k) e (repetition-start defaultOrder (letters 0 x) start);
       inside = omega (arith, s .inside);
       room = room-set x out start 1 room;
-      table = record { size = refl; entry = first .entry; past = λ t q. refl };
+      table = record { entry = first .entry; others = kept-all (set out start 1) };
     }
 
 -- What was filled in after the first entry was filled in after the buffer's old content.
@@ -79,9 +83,8 @@ filled-first x before after start v s l w =
       stopped = w .stopped;
       table =
           record {
-            size = w .table .size ∙ length-set before start v;
             entry = w .table .entry;
-            past = λ t q. w .table .past t q ∙ getD-set-other before start t v 0 (λ r. omega arith);
+            others = kept-then (kept-set before start v (λ t q r. omega arith)) (w .table .others);
           };
     }
 
@@ -172,7 +175,7 @@ covered-startable x out start s w l =
 -- Where it holds one, nothing is left to write.
 pub covered-filled : (x out : List ℕ) (start : ℕ) (s : Stretch) → Covered x out start s → start + s .period ≤ s .end → TableFilled x out out start s
 covered-filled x out start s w l =
-    record { stopped = w .remains l; table = record { size = refl; entry = w .entry; past = λ t q. refl } }
+    record { stopped = w .remains l; table = record { entry = w .entry; others = kept-all out } }
 
 -- Nothing is done yet.
 pub covered-none : (x out : List ℕ) → Covered x out 0 (record { period = 1; end = 0 })
@@ -190,11 +193,10 @@ covered-none x out =
 pub record Covering (x before out : List ℕ) (start : ℕ) (s : Stretch) : Type 0 where
   pub room : TextRoom x out
   pub covered : Covered x out start s
-  pub size : length out ≡ length before
-  pub past : (t : ℕ) → length x ≤ t → getD out t 0 ≡ getD before t 0
+  pub others : Kept (From (length x)) before out
 
 pub covering-start : (x out : List ℕ) → TextRoom x out → Covering x out out 0 (record { period = 1; end = 0 })
-covering-start x out room = record { room = room; covered = covered-none x out; size = refl; past = λ t q. refl }
+covering-start x out room = record { room = room; covered = covered-none x out; others = kept-all out }
 
 module _ (x before out after : List ℕ) (start : ℕ) (s r : Stretch) (w : Covering x before out start s)
     (f : TableFilled x out after start r) where
@@ -211,7 +213,7 @@ module _ (x before out after : List ℕ) (start : ℕ) (s r : Stretch) (w : Cove
   pub covering-step : Covering x before after (start + r .period) r
   covering-step =
       record {
-        room = record { short = w .room .short; places = omega (arith, w .room .places, f .table .size) };
+        room = record { short = w .room .short; places = omega (arith, w .room .places, f .table .others .size) };
         covered =
             record {
               lowest =
@@ -223,12 +225,19 @@ module _ (x before out after : List ℕ) (start : ℕ) (s r : Stretch) (w : Cove
               entry = f .table .entry;
               remains = stopped-rest defaultOrder (letters 0 x) (length x) start r (f .stopped);
             };
-        size = f .table .size ∙ w .size;
-        past = λ t q. f .table .past t q ∙ w .past t q;
+        others = kept-then (w .others) (f .table .others);
       }
 
 -- All factors are done.
 pub covering-end : (x before out : List ℕ) (start : ℕ) (s : Stretch) → Covering x before out start s → length x ≤ start →
     Tabled x before out (length x)
 covering-end x before out start s w l =
-    record { size = w .size; entry = λ t q. w .covered .entry t (omega (arith, w .covered .reached)); past = w .past }
+    record { entry = λ t q. w .covered .entry t (omega (arith, w .covered .reached)); others = w .others }
+
+-- A buffer that holds all entries of the suffix table has the table written into it.
+pub tabled-written : (x before after : List ℕ) → TextRoom x before → Tabled x before after (length x) →
+    after ≡ written (suffixTableOf decided-default x) before
+tabled-written x before after room w =
+    let t : IsSuffixTable defaultOrder x (suffixTableOf decided-default x) = suffixTableOf-holds decided-default x in
+    written-places (suffixTableOf decided-default x) (length x) before after (t .size) (room .places) (w .others)
+    (λ j q. longest-to-unique (w .entry j q) (t .entry j q))

@@ -7,6 +7,7 @@ use Prim.Native.Nat.{ℕ, suc, _-_, _<_, _≤_}
 use lib.ListN.{length, getD}
 use Rattle.words.specs.Laws.LeftForest.{Uncrossed, FirstCrossing, Nested}
 use Rattle.answer.specs.Limits.{maxLength}
+use Rattle.answer.specs.Content.{Kept, From}
 
 -- The starts that a suffix table stands for.
 abbrev pub startIn : List ℕ → ℕ → ℕ
@@ -30,7 +31,7 @@ pub record Linked (start : ℕ → ℕ) (first : List ℕ) (e last : ℕ) : Type
 pub record Closes (start : ℕ → ℕ) (before after : List ℕ) (e : ℕ) : Type 0 where
   pub closed : (j : ℕ) → FirstCrossing start j e → getD after j 0 ≡ suc e
   pub done : (j d : ℕ) → d < e → FirstCrossing start j d → getD after j 0 ≡ getD before j 0
-  pub later : (t : ℕ) → e < t → getD after t 0 ≡ getD before t 0
+  pub others : Kept (From (suc e)) before after
 
 -- PAST holds a suffix table of n entries, whose words are nested, and both buffers have room for n numbers.
 pub record Linkable (first table : List ℕ) (n : ℕ) : Type 0 where
@@ -44,17 +45,15 @@ pub record Linkable (first table : List ℕ) (n : ℕ) : Type 0 where
 -- The first e words have been read from the table: FIRST has their starts, one place further on, but for the last, which is `last`; PAST
 -- has the ends at the positions that they cross. The rest of both buffers is as it was.
 pub record Crossed (before table first past : List ℕ) (e last : ℕ) : Type 0 where
-  pub first-size : length first ≡ length before
-  pub past-size : length past ≡ length table
   pub small : last ≤ e
   pub link : (i : ℕ) → suc i < e → getD first (suc i) 0 ≡ startIn table i
   pub here : (i : ℕ) → suc i ≡ e → startIn table i ≡ last
   pub closed : (j d : ℕ) → d < e → FirstCrossing (startIn table) j d → getD past j 0 ≡ suc d
-  pub first-rest : (t : ℕ) → e ≤ t → getD first t 0 ≡ getD before t 0
-  pub past-rest : (t : ℕ) → e ≤ t → getD past t 0 ≡ getD table t 0
+  pub in-first : Kept (From e) before first
+  pub in-past : Kept (From e) table past
 
 -- In a buffer the positions up to e that no word crosses have got themselves; those that one crosses, and those behind e, keep what they had.
 pub record OwnRoots (start : ℕ → ℕ) (before after : List ℕ) (e : ℕ) : Type 0 where
   pub own : (j : ℕ) → j ≤ e → Uncrossed start (suc e) j → getD after j 0 ≡ j
   pub kept : (j d : ℕ) → d ≤ e → FirstCrossing start j d → getD after j 0 ≡ getD before j 0
-  pub rest : (k : ℕ) → e < k → getD after k 0 ≡ getD before k 0
+  pub others : Kept (From (suc e)) before after

@@ -11,6 +11,7 @@ use Rattle.words.specs.Laws.SpanLyndon.{letters}
 use Rattle.words.specs.Laws.LowestSuffix.{Lowest}
 use Rattle.answer.specs.Limits.{maxLength}
 use Rattle.answer.specs.Checks.{written}
+use Rattle.answer.specs.Content.{Kept, From}
 use Rattle.factors.specs.declared.scan.Stretch.{Stretch}
 use Rattle.factors.specs.Default.{defaultOrder, decided-default}
 use Rattle.factors.specs.DuvalFactorization.{ScanStopped}
@@ -20,11 +21,10 @@ pub record FactorsListed (x before after : List ℕ) (count : ℕ) : Type 0 wher
   pub counted : count ≡ length (factorizationOf decided-default x)
   pub content : after ≡ written (factorizationOf decided-default x) before
 
--- The first e entries of a buffer are those of the Lyndon suffix table of x; places past the text keep what they held before.
+-- The first e entries of a buffer are those of the Lyndon suffix table of x; the places past the text are as before.
 pub record Tabled (x before after : List ℕ) (e : ℕ) : Type 0 where
-  pub size : length after ≡ length before
   pub entry : (t : ℕ) → t < e → LongestTo defaultOrder x t (getD after t 0)
-  pub past : (t : ℕ) → length x ≤ t → getD after t 0 ≡ getD before t 0
+  pub others : Kept (From (length x)) before after
 
 -- A scan may begin at `start`: no suffix before it is smaller, and the entries before it are there.
 pub record Startable (x out : List ℕ) (start : ℕ) : Type 0 where

@@ -1,13 +1,13 @@
 -- The sequence lines at a position of the input, by the byte that stands there.
 -- Assumes nothing.
-use mathlib.Core.Path.{_≡_, refl, sym, ap}
+use mathlib.Core.Path.{_≡_, refl, ap}
 use mathlib.Core.Bool.{Bool}
 use mathlib.Core.List.{List, [], _++_}
 use Prim.Native.Nat.{ℕ, suc, _+_, _≤_, _<_}
 use native.Mathlib.Numerals.{add-one}
 use borrow.Author.Tests.{eq-eqb, ne-eqb}
 use lib.ListN.{length, getD, drop, drop-of-length-le, length-append}
-use lib.Seq.{drop-cons, sets}
+use lib.Seq.{drop-cons}
 use Rattle.fasta.specs.declared.bytes.Kind.{Kind}
 use Rattle.fasta.specs.declared.bytes.Kind.the-variants.{Letter, LineEnd, CarriageReturn, HeaderMark, Unfit}
 use Rattle.fasta.specs.declared.lines.Ending.{Ending}
@@ -16,7 +16,6 @@ use Rattle.fasta.specs.declared.lines.Step.{Step}
 use Rattle.fasta.specs.declared.lines.Step.the-variants.{On, Off}
 use Rattle.fasta.specs.Bytes.{kindOf, lineEnd}
 use Rattle.fasta.specs.Lines.{afterLine, stepFor, linesFrom, letterBefore, letterAt, lettersIn}
-use Rattle.fasta.specs.Laws.Stores.{sets-append}
 
 -- No byte of the line is left.
 pub line-over : (x : List ℕ) (at : ℕ) → length x ≤ at → afterLine at (drop at x) ≡ at
@@ -62,13 +61,6 @@ module _ (x : List ℕ) (at : ℕ) (h : at < length x) where
 
   pub letters-at : lettersIn (drop at x) ≡ letterAt x at ++ lettersIn (drop (at + 1) x)
   letters-at = rw (drop-cons x at 0 h, add-one at) (letter-first (kindOf (getD x at 0)) (getD x at 0) (lettersIn (drop (suc at) x)))
-
-  -- Where b holds count letters, those from here on are stored with the one at this position first.
-  pub letters-stored :
-      (b : List ℕ) (count : ℕ) {b′ : List ℕ} {count′ : ℕ}
-      → count′ ≡ count + length (letterAt x at) → b′ ≡ sets b count (letterAt x at)
-      → sets b′ count′ (lettersIn (drop (at + 1) x)) ≡ sets b count (lettersIn (drop at x))
-  letters-stored b count e f = rw (e, f, letters-at) (sym (sets-append b count (letterAt x at) (lettersIn (drop (at + 1) x))))
 
   pub letters-counted : length (lettersIn (drop at x)) ≡ length (letterAt x at) + length (lettersIn (drop (at + 1) x))
   letters-counted = rw letters-at (length-append (letterAt x at) (lettersIn (drop (at + 1) x)))

@@ -1,4 +1,3 @@
-pub mod Stores
 pub mod Positions
 pub mod Names
 pub mod Classes

@@ -3,7 +3,8 @@ ghost use mathlib.Core.Path.{_≡_};
 ghost use mathlib.Core.Bool.{false};
 ghost use Prim.Native.Nat.{_+_, _≤_, _<_};
 ghost use lib.ListN.{length, getD, drop};
-ghost use lib.Seq.{sets};
+ghost use Rattle.answer.specs.Checks.{written};
+ghost use Rattle.answer.specs.Content.{Written};
 ghost use Rattle.answer.specs.Limits.{maxInput};
 ghost use Rattle.fasta.specs.Bytes.{kindOf};
 ghost use Rattle.fasta.specs.Lines.{afterLine, letterStep, stepFor, linesFrom, letterAt, lettersIn};
@@ -142,8 +143,7 @@ pub(crate) fn lines_from(input: &[u8], from: usize) -> Ending
 fn keep_letter(input: &[u8], at: usize, letters: &mut [u8], count: usize) -> usize
     requires { ⌜ at < length (now input) ⌝ }
     requires { ⌜ count + length (letterAt (now input) at) ≤ length (now letters) ⌝ }
-    ensures result { λ r. ⌜ r ≡ count + length (letterAt (now (input .entry)) at) ⌝ }
-    ensures content { λ _. ⌜ now (letters .exit) ≡ sets (now (letters .entry)) count (letterAt (now (input .entry)) at) ⌝ }
+    ensures content { λ r. ⌜ Written (now (letters .entry)) (now (letters .exit)) count r (letterAt (now (input .entry)) at) ⌝ }
 {
     let kind = kind_at(input, at);
     match kind {
@@ -162,7 +162,7 @@ fn keep_letter(input: &[u8], at: usize, letters: &mut [u8], count: usize) -> usi
 pub(crate) fn write_letters(input: &[u8], from: usize, letters: &mut [u8])
     requires { ⌜ from ≤ length (now input) ⌝ }
     requires { ⌜ length (lettersIn (drop from (now input))) ≤ length (now letters) ⌝ }
-    ensures content { λ _. ⌜ now (letters .exit) ≡ sets (now (letters .entry)) 0 (lettersIn (drop from (now (input .entry)))) ⌝ }
+    ensures content { λ _. ⌜ now (letters .exit) ≡ written (lettersIn (drop from (now (input .entry)))) (now (letters .entry)) ⌝ }
 {
     let mut at = from;
     let mut count = 0;

@@ -1,5 +1,5 @@
 pub mod Crossings
 pub mod Verdicts
-pub mod Writing
+pub mod Marking
 pub mod Filling
 pub mod Calls

@@ -1,4 +1,4 @@
 pub mod Answers
 pub mod Theorems
 pub mod Checked
-pub mod Written
+pub mod Marked

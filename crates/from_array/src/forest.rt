@@ -1,5 +1,5 @@
 // The right forest of every text that has an array (document 01's right forest). Contracts cite
-// `specs/Answers.antt`, `specs/Written.antt` and the definitions of `words`. Nothing is assumed.
+// `specs/Answers.antt`, `specs/Marked.antt` and the definitions of `words`. Nothing is assumed.
 use super::check::check;
 use super::entries::end_of;
 use super::mark::mark;
@@ -15,13 +15,14 @@ ghost use Rattle.words.specs.ArrayForest.{firstFor, pastFor, forestFirst, fores
 ghost use Rattle.answer.specs.Limits.{maxLength};
 ghost use Rattle.answer.specs.Checks.{contentAfter};
 ghost use Rattle.from_array.specs.Answers.{rightForestAnswer};
-ghost use Rattle.from_array.specs.Written.{ArrayRoom, ValuesHeld};
+ghost use Rattle.answer.specs.Content.{Holds};
+ghost use Rattle.from_array.specs.Marked.{ArrayRoom};
 
 // Every position has itself.
 fn write_own(first: &mut [u32], n: usize)
     requires { ⌜ n ≤ maxLength ⌝ }
     requires { ⌜ n ≤ length (now first) ⌝ }
-    ensures content { λ _. ⌜ ValuesHeld (λ j. j) n (now (first .entry)) (now (first .exit)) ⌝ }
+    ensures content { λ _. ⌜ Holds (λ j. j) n (now (first .entry)) (now (first .exit)) ⌝ }
 {
     let mut k = 0;
     while k < n {
@@ -33,7 +34,7 @@ fn write_own(first: &mut [u32], n: usize)
 // FIRST: each position has the one whose span is its innermost, or itself.
 fn write_first(array: &[u32], first: &mut [u32])
     requires { ⌜ ArrayRoom (now array) (now first) ⌝ }
-    ensures content { λ _. ⌜ ValuesHeld (firstFor (now (array .entry))) (length (now (array .entry))) (now (first .entry)) (now (first .exit)) ⌝ }
+    ensures content { λ _. ⌜ Holds (firstFor (now (array .entry))) (length (now (array .entry))) (now (first .entry)) (now (first .exit)) ⌝ }
 {
     write_own(first, array.len());
     let mut i = 0;
@@ -62,7 +63,7 @@ fn write_past(array: &[u32], first: &[u32], past: &mut [u32])
     requires { ⌜ ArrayRoom (now array) (now past) ⌝ }
     requires { ⌜ length (now array) ≤ length (now first) ⌝ }
     requires { ⌜ ((j : ℕ) → j < length (now array) → getD (now first) j 0 ≡ firstFor (now array) j) ⌝ }
-    ensures content { λ _. ⌜ ValuesHeld (pastFor (now (array .entry))) (length (now (array .entry))) (now (past .entry)) (now (past .exit)) ⌝ }
+    ensures content { λ _. ⌜ Holds (pastFor (now (array .entry))) (length (now (array .entry))) (now (past .entry)) (now (past .exit)) ⌝ }
 {
     let mut j = 0;
     while j < array.len() {

@@ -1,9 +1,9 @@
-// Positions marked from the span that holds them. Contracts cite `specs/Written.antt`. Nothing is
+// Positions marked from the span that holds them. Contracts cite `specs/Marked.antt`. Nothing is
 // assumed.
 use super::entries::end_of;
 ghost use Prim.Native.Nat.{_<_};
 ghost use lib.ListN.{length};
-ghost use Rattle.from_array.specs.Written.{ArrayRoom, Marked};
+ghost use Rattle.from_array.specs.Marked.{ArrayRoom, Marked};
 
 // Writes `value` at each position whose innermost span is that of `i`: `i + 1`, the end of the span
 // there, and so on up to the end of the span at `i`.

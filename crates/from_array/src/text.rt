@@ -1,5 +1,5 @@
 // A text that has a given array (document 01's judge). Contracts cite `specs/Answers.antt`,
-// `specs/Written.antt` and the definitions of `words`. Nothing is assumed.
+// `specs/Marked.antt` and the definitions of `words`. Nothing is assumed.
 use super::check::check;
 use super::entries::end_of;
 use super::mark::mark;
@@ -13,12 +13,13 @@ ghost use lib.ListN.{length};
 ghost use Rattle.words.specs.ValidArray.{letterFor, textFor};
 ghost use Rattle.answer.specs.Checks.{contentAfter};
 ghost use Rattle.from_array.specs.Answers.{reconstructAnswer};
-ghost use Rattle.from_array.specs.Written.{ArrayRoom, ValuesHeld};
+ghost use Rattle.answer.specs.Content.{Holds};
+ghost use Rattle.from_array.specs.Marked.{ArrayRoom};
 
 // Every position has 0: no span is counted yet.
 fn write_zeros(text: &mut [u32], n: usize)
     requires { ⌜ n ≤ length (now text) ⌝ }
-    ensures content { λ _. ⌜ ValuesHeld (λ j. 0) n (now (text .entry)) (now (text .exit)) ⌝ }
+    ensures content { λ _. ⌜ Holds (λ j. 0) n (now (text .entry)) (now (text .exit)) ⌝ }
 {
     let mut j = 0;
     while j < n {
@@ -31,7 +32,7 @@ fn write_zeros(text: &mut [u32], n: usize)
 // span holds it, once the innermost of them had its turn.
 fn write_letters(array: &[u32], text: &mut [u32])
     requires { ⌜ ArrayRoom (now array) (now text) ⌝ }
-    ensures content { λ _. ⌜ ValuesHeld (letterFor (now (array .entry))) (length (now (array .entry))) (now (text .entry)) (now (text .exit)) ⌝ }
+    ensures content { λ _. ⌜ Holds (letterFor (now (array .entry))) (length (now (array .entry))) (now (text .entry)) (now (text .exit)) ⌝ }
 {
     let n = array.len();
     write_zeros(text, n);

@@ -1,4 +1,3 @@
 pub mod Decimal
-pub mod Written
 pub mod Bed
 pub mod Listing

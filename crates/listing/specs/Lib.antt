@@ -1,5 +1,4 @@
 pub mod Decimal
-pub mod Written
 pub mod Bed
 pub mod Listing
 pub mod Theorems

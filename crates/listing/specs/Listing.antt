@@ -4,13 +4,11 @@ use mathlib.Core.Path.{_≡_}
 use mathlib.Core.List.{List, [], _∷_, _++_}
 use Prim.Native.Nat.{ℕ, _*_}
 use lib.ListN.{length, take}
-use Rattle.words.specs.Equality.{decided-number-equality}
-use Rattle.words.specs.Runs.{numbers}
-use Rattle.words.specs.Compute.Runs.{runsOf}
 use Rattle.answer.specs.declared.Outcome.{Outcome}
 use Rattle.answer.specs.declared.Outcome.the-variants.{Accepted, Refused}
 use Rattle.answer.specs.Reasons.{numberOf}
 use Rattle.answer.specs.Limits.{maxLetters}
+use Rattle.array.specs.Calls.{runList, runNumbers}
 use Rattle.fasta.specs.Name.{recordName}
 use Rattle.fasta.specs.Reader.{readerAnswer, recordLetters}
 use Rattle.listing.specs.Decimal.{decimalOf}
@@ -23,12 +21,12 @@ refusalLine n p =
 
 -- The lines of the record of x that starts at p: one for each run of its letters.
 abbrev pub recordListing : List ℕ → ℕ → List ℕ
-recordListing x p = bedLines (recordName x p) (runsOf decided-number-equality (recordLetters x p))
+recordListing x p = bedLines (recordName x p) (runList (recordLetters x p))
 
 -- The numbers of a run list begin with those of all runs of x, of which there are count.
 pub record HoldsRuns (list x : List ℕ) (count : ℕ) : Type 0 where
-  pub counted : count ≡ length (runsOf decided-number-equality x)
-  pub held : take (3 * count) list ≡ numbers (runsOf decided-number-equality x)
+  pub counted : count ≡ length (runList x)
+  pub held : take (3 * count) list ≡ runNumbers x
 
 -- What is printed for the input x by the reader's outcome.
 abbrev pub listingFor : Outcome → List ℕ → List ℕ

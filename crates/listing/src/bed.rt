@@ -1,11 +1,11 @@
 // BED lines, written into a buffer from a position on. Each function returns the position past what it wrote.
-// Contracts cite `specs/Bed.antt` and `specs/Written.antt`. Nothing is assumed.
+// Contracts cite `specs/Bed.antt`. Nothing is assumed.
 ghost use Prim.Native.Nat.{_+_, _*_, _≤_};
 ghost use lib.ListN.{length};
+ghost use Rattle.answer.specs.Content.{Written};
 ghost use Rattle.fasta.specs.Name.{maxName};
 ghost use Rattle.listing.specs.Bed.{numberField, repeatField, bedLine, bedLines, entryWith, entriesOf};
 ghost use Rattle.listing.specs.Limits.{maxLine};
-ghost use Rattle.listing.specs.Written.{Written};
 use crate::text::write_byte;
 use crate::text::write_bytes;
 use crate::text::write_decimal;
@@ -55,7 +55,6 @@ pub(crate) fn write_lines(
     requires { ⌜ 3 * count ≤ length (now runs) ⌝ }
     requires { ⌜ at + maxLine * count ≤ length (now out) ⌝ }
     ensures content { λ r. ⌜ Written (now (out .entry)) (now (out .exit)) at r (bedLines (now (name .entry)) (entriesOf count (now (runs .entry)))) ⌝ }
-    ensures within { λ r. ⌜ r ≤ length (now (out .entry)) ⌝ }
 {
     let mut from = 0;
     let mut left = count;

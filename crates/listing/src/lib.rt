@@ -7,12 +7,12 @@ ghost use mathlib.Core.Path.{_≡_};
 ghost use Prim.Native.Nat.{_+_, _*_, _≤_, _<_};
 ghost use lib.ListN.{length};
 ghost use Rattle.answer.specs.Limits.{maxLetters, runListLength, workLength};
+ghost use Rattle.answer.specs.Content.{Written};
 ghost use Rattle.fasta.specs.Name.{maxName, recordName};
 ghost use Rattle.fasta.specs.Reader.{lettersOf};
 ghost use Rattle.listing.specs.Bed.{bedLines, entriesOf};
 ghost use Rattle.listing.specs.Limits.{maxLine, maxRefusal, maxListing};
 ghost use Rattle.listing.specs.Listing.{refusalLine, ReaderAccepts, HoldsRuns, listingOf};
-ghost use Rattle.listing.specs.Written.{Written, Printed};
 use crate::bed::write_lines;
 use crate::text::write_byte;
 use crate::text::write_bytes;
@@ -37,7 +37,7 @@ const RUNS: usize = 6 * LETTERS;
 // Writes the line of a refusal, with its number and position.
 fn write_refusal(number: u32, position: u32, out: &mut [u8]) -> usize
     requires { ⌜ maxRefusal ≤ length (now out) ⌝ }
-    ensures content { λ r. ⌜ Printed (now (out .entry)) (now (out .exit)) r (refusalLine number position) ⌝ }
+    ensures content { λ r. ⌜ Written (now (out .entry)) (now (out .exit)) 0 r (refusalLine number position) ⌝ }
 {
     let past_refused = write_bytes(b"refused ", out, 0);
     let past_number = write_decimal(number as usize, out, past_refused);
@@ -61,7 +61,6 @@ fn write_record(
     requires { ⌜ 3 * count ≤ length (now runs) ⌝ }
     requires { ⌜ at + maxLine * count ≤ length (now out) ⌝ }
     ensures content { λ r. ⌜ Written (now (out .entry)) (now (out .exit)) at r (bedLines (recordName (now (input .entry)) from) (entriesOf count (now (runs .entry)))) ⌝ }
-    ensures within { λ r. ⌜ r ≤ length (now (out .entry)) ⌝ }
 {
     let start = from + 1;
     let end = name_end(input, start);
@@ -75,7 +74,7 @@ fn write_accepted(input: &[u8], runs: &[u32], count: usize, out: &mut [u8]) -> u
     requires { ⌜ HoldsRuns (now runs) (lettersOf (now input)) count ⌝ }
     requires { ⌜ length (now runs) ≤ runListLength maxLetters ⌝ }
     requires { ⌜ maxListing ≤ length (now out) ⌝ }
-    ensures content { λ r. ⌜ Printed (now (out .entry)) (now (out .exit)) r (listingOf (now (input .entry))) ⌝ }
+    ensures content { λ r. ⌜ Written (now (out .entry)) (now (out .exit)) 0 r (listingOf (now (input .entry))) ⌝ }
 {
     write_record(input, 0, runs, count, out, 0)
 }
@@ -93,7 +92,7 @@ fn list_accepted(
     requires { ⌜ workLength maxLetters ≤ length (now work) ⌝ }
     requires { ⌜ length (now list) ≡ runListLength maxLetters ⌝ }
     requires { ⌜ maxListing ≤ length (now out) ⌝ }
-    ensures content { λ r. ⌜ Printed (now (out .entry)) (now (out .exit)) r (listingOf (now (input .entry))) ⌝ }
+    ensures content { λ r. ⌜ Written (now (out .entry)) (now (out .exit)) 0 r (listingOf (now (input .entry))) ⌝ }
 {
     let answer = runs(letters, work, list);
     let count = value(answer) as usize;
@@ -112,7 +111,7 @@ fn list_repeats(
     requires { ⌜ workLength maxLetters ≤ length (now work) ⌝ }
     requires { ⌜ length (now list) ≡ runListLength maxLetters ⌝ }
     requires { ⌜ maxListing ≤ length (now out) ⌝ }
-    ensures content { λ r. ⌜ Printed (now (out .entry)) (now (out .exit)) r (listingOf (now (input .entry))) ⌝ }
+    ensures content { λ r. ⌜ Written (now (out .entry)) (now (out .exit)) 0 r (listingOf (now (input .entry))) ⌝ }
 {
     let answer = fasta::read(input, letters);
     let outcome = answer.outcome;
@@ -128,7 +127,7 @@ fn list_repeats(
 
 // Writes all that is printed for the input at the start of `out`, and returns how long it is. Changes nothing past it.
 pub fn list(input: &[u8], out: &mut [u8; MAX_LISTING]) -> usize
-    ensures content { λ r. ⌜ Printed (now (out .entry)) (now (out .exit)) r (listingOf (now (input .entry))) ⌝ }
+    ensures content { λ r. ⌜ Written (now (out .entry)) (now (out .exit)) 0 r (listingOf (now (input .entry))) ⌝ }
 {
     let mut letters = [0u8; LETTERS];
     let mut work = [0u32; WORK];

@@ -1,10 +1,10 @@
 // Bytes and numbers, written into a buffer from a position on. Each function returns the position past what it wrote.
-// Contracts cite `specs/Written.antt` and `specs/Decimal.antt`. Nothing is assumed.
+// Contracts cite `specs/Decimal.antt`. Nothing is assumed.
 ghost use Prim.Native.Nat.{_+_, _≤_, _<_};
 ghost use mathlib.Core.List.{[], _∷_};
 ghost use lib.ListN.{length};
+ghost use Rattle.answer.specs.Content.{Written};
 ghost use Rattle.listing.specs.Decimal.{decimalOf};
-ghost use Rattle.listing.specs.Written.{Written};
 
 // Writes one byte.
 pub(crate) fn write_byte(byte: u8, out: &mut [u8], at: usize) -> usize

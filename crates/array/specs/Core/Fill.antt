@@ -5,6 +5,7 @@ use mathlib.Core.List.{List}
 use Prim.Native.Nat.{ℕ, _<_, _≤_}
 use lib.ListN.{length, getD}
 use Rattle.answer.specs.Limits.{maxLength}
+use Rattle.answer.specs.Content.{Kept, From}
 use Rattle.array.specs.Core.Rows.{entryOf, RowsOf}
 
 -- A text that is not too long, with a buffer for its array.
@@ -12,15 +13,10 @@ pub record TextFits (x buf : List ℕ) : Type 0 where
   pub fits : length x ≤ length buf
   pub small : length x ≤ maxLength
 
--- The places from n on keep their content.
-pub record KeptFrom (before after : List ℕ) (n : ℕ) : Type 0 where
-  pub size : length after ≡ length before
-  pub kept : (t : ℕ) → n ≤ t → getD after t 0 ≡ getD before t 0
-
 -- The positions from i on have been joined.
 pub record Filled (order : ℕ) (x before after : List ℕ) (i : ℕ) : Type 0 where
   pub rows : RowsOf order x after i
-  pub others : KeptFrom before after (length x)
+  pub others : Kept (From (length x)) before after
 
 -- The buffer holds the rows of some text of n letters.
 pub record HasRows (buf : List ℕ) (n : ℕ) : Type 0 where
@@ -32,5 +28,5 @@ pub record HasRows (buf : List ℕ) (n : ℕ) : Type 0 where
 
 -- All entries are final, for every text whose rows the buffer held.
 pub record AllRestored (before after : List ℕ) (n : ℕ) : Type 0 where
-  pub others : KeptFrom before after n
+  pub others : Kept (From n) before after
   pub final : (order : ℕ) (x : List ℕ) → length x ≡ n → RowsOf order x before 0 → (t : ℕ) → t < n → getD after t 0 ≡ entryOf order x t

@@ -3,12 +3,13 @@
 use mathlib.Core.Path.{_≡_}
 use mathlib.Core.List.{List}
 use Prim.Native.Nat.{ℕ, _+_, _<_, _≤_}
-use lib.ListN.{length, getD}
+use lib.ListN.{length}
 use Rattle.words.specs.Laws.Position.{Agree}
 use Rattle.words.specs.Laws.SpanLyndon.{letters}
 use Rattle.words.specs.Laws.SuffixOrder.{NextSmaller}
 use Rattle.words.specs.Letters.{orderOf}
 use Rattle.answer.specs.Limits.{maxLength}
+use Rattle.answer.specs.Content.{Kept}
 use Rattle.letters.specs.declared.Comparison.{Comparison}
 use Rattle.letters.specs.declared.Comparison.the-variants.{Below, Same, Above}
 use Rattle.array.specs.declared.joined.Joined.{Joined}
@@ -34,14 +35,13 @@ pub record JoinReady (order : ℕ) (x buf : List ℕ) (i : ℕ) : Type 0 where
   pub small : length x ≤ maxLength
   pub rows : RowsOf order x buf (i + 1)
 
--- Only places after i and below n have changed.
-pub record ChangedAfter (before after : List ℕ) (i n : ℕ) : Type 0 where
-  pub size : length after ≡ length before
-  pub kept : (t : ℕ) → ¬ ((i < t) × (t < n)) → getD after t 0 ≡ getD before t 0
+-- The places up to i, and those from n on.
+abbrev pub Outside : ℕ → ℕ → ℕ → Type 0
+Outside i n t = ¬ ((i < t) × (t < n))
 
 -- The word from i is joined up to its next smaller suffix.
 pub record JoinedTo (order : ℕ) (x before after : List ℕ) (i : ℕ) (r : Joined) : Type 0 where
-  pub changed : ChangedAfter before after i (length x)
+  pub changed : Kept (Outside i (length x)) before after
   pub joining : Joining (orderOf order) (letters 0 x) (length x) (entryOf order x) (letters 0 after) i (r .end) (r .agreed) (r .part)
   pub next : NextSmaller (orderOf order) (letters 0 x) (length x) i (r .end)
   pub stopped : Stopped order x i (r .end) (r .agreed) (r .stop)

@@ -4,12 +4,10 @@ use mathlib.Core.Path.{_≡_, sym, ap, _∙_}
 use Prim.Native.Nat.{ℕ}
 use native.Mathlib.Omega.{arith}
 use lib.ListN.{length, drop}
-use lib.Seq.{sets}
 use Rattle.answer.specs.declared.Outcome.{Outcome}
-use Rattle.answer.specs.Checks.{contentIn}
+use Rattle.answer.specs.Checks.{written, contentIn}
 use Rattle.fasta.specs.Lines.{lettersIn}
 use Rattle.fasta.specs.Reader.{answerFor, recordEnding, lettersOf}
-use Rattle.fasta.specs.Laws.Stores.{stored-first}
 use Rattle.fasta.specs.Laws.Positions.{linesStart-within}
 use Rattle.fasta.specs.Laws.Accepted.{AcceptedInput, accepted-input}
 use borrow.Author.Needs.{needs}
@@ -63,13 +61,11 @@ returns-2 c =
     let start = c .before .before .before .before .before .before .before .before .before .before .before in
     let x = start .args .input .now in
     let b = start .args .letters .now in
-    let w = known (c .before .before .before .before .before) in
     let told = c .before .before .before .before .before .enum-told .given .1 in (
       answered (c .before .before .before .before .before .before .before),
       c .before .before .write-letters .ensures
-          ∙ (ap (λ (q : ℕ). sets b 0 (lettersIn (drop q x))) (c .before .before .before .before .after-line .ensures)
-          ∙ (stored-first b (lettersOf x) (omega (arith, w .letters, w .most, start .pre .1))
-          ∙ sym (ap (λ (o : Outcome). contentIn o (lettersOf x) b) told))),
+          ∙ (ap (λ (q : ℕ). written (lettersIn (drop q x)) b) (c .before .before .before .before .after-line .ensures)
+          ∙ sym (ap (λ (o : Outcome). contentIn o (lettersOf x) b) told)),
     )
 
 pub read-record-spec : {M : Type 1} → statement M

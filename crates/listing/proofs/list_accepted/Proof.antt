@@ -1,21 +1,18 @@
 -- `listing::list_accepted` meets its contract: the run call accepts the letters, and its list holds their runs.
 -- Assumes nothing.
-use mathlib.Core.Path.{_≡_, refl, sym, ap, _∙_}
+use mathlib.Core.Path.{_≡_, refl, ap, _∙_}
 use mathlib.Core.List.{List}
 use Prim.Native.Nat.{ℕ, _≤_, _<_}
 use native.Mathlib.Omega.{arith}
 use borrow.Author.Tests.{ne-eqb, le-ltb}
 use lib.ListN.{length}
-use Rattle.words.specs.Equality.{decided-number-equality}
-use Rattle.words.specs.Runs.{numbers}
-use Rattle.words.specs.Compute.Runs.{runsOf}
 use Rattle.answer.specs.declared.Answer.{Answer}
 use Rattle.answer.specs.Answers.{acceptedWith, value}
 use Rattle.answer.specs.Checks.{contentAfter}
 use Rattle.answer.specs.Limits.{maxLength, maxLetters, runListLength, workLength}
 use Rattle.fasta.specs.Reader.{lettersOf}
 use Rattle.fasta.specs.Laws.Accepted.{AcceptedInput, reader-accepted}
-use Rattle.array.specs.Calls.{runsAnswer}
+use Rattle.array.specs.Calls.{runList, runNumbers, runsAnswer}
 use Rattle.listing.specs.Listing.{HoldsRuns}
 use Rattle.listing.specs.Laws.Listing.{holds-written}
 use borrow.Author.Needs.{needs}
@@ -25,7 +22,7 @@ use Rattle.listing.proofs.list_accepted.Tie as tie
 -- The runs of a text that the reader hands on are found.
 runs-found :
     (x : List ℕ) (work list : ℕ) → 0 < length x → length x ≤ maxLetters → workLength maxLetters ≤ work → list ≡ runListLength maxLetters
-    → runsAnswer x work list ≡ acceptedWith (length (runsOf decided-number-equality x))
+    → runsAnswer x work list ≡ acceptedWith (length (runList x))
 runs-found x work list h k v w =
     rw (
       ne-eqb (length x) 0 (omega arith),
@@ -38,7 +35,7 @@ runs-found x work list h k v w =
 found :
     (c : tie.After-runs) →
     let args = c .before .before .before .before .before .before .before .before .args in
-    c .runs .result ≡ acceptedWith (length (runsOf decided-number-equality (lettersOf (args .input .now))))
+    c .runs .result ≡ acceptedWith (length (runList (lettersOf (args .input .now))))
 found c =
     let start = c .before .before .before .before .before .before .before .before in
     let x = start .args .input .now in
@@ -53,16 +50,16 @@ found c =
 held :
     (c : tie.After-runs) →
     let x = c .before .before .before .before .before .before .before .before .args .input .now in
-    HoldsRuns (c .runs .last .1 .1 .0) (lettersOf x) (length (runsOf decided-number-equality (lettersOf x)))
+    HoldsRuns (c .runs .last .1 .1 .0) (lettersOf x) (length (runList (lettersOf x)))
 held c =
     let start = c .before .before .before .before .before .before .before .before in
     let x = start .args .input .now in
     let b = start .args .list .now in
     let e =
     c .runs .ensures .1 .0
-    ∙ (ap (λ (l : List ℕ). contentAfter (c .runs .result) (numbers (runsOf decided-number-equality l)) b) (start .pre .1 .0)
-    ∙ ap (λ (a : Answer). contentAfter a (numbers (runsOf decided-number-equality (lettersOf x))) b) (found c)) in
-    rw e (holds-written b (lettersOf x) (length (runsOf decided-number-equality (lettersOf x))) refl)
+    ∙ (ap (λ (l : List ℕ). contentAfter (c .runs .result) (runNumbers l) b) (start .pre .1 .0)
+    ∙ ap (λ (a : Answer). contentAfter a (runNumbers (lettersOf x)) b) (found c)) in
+    rw e (holds-written b (lettersOf x) (length (runList (lettersOf x))) refl)
 
 runs-requires : tie.Need-runs-requires
 runs-requires c κs = search needs

@@ -13,7 +13,7 @@ use Rattle.fasta.specs.Reader.{readerAnswer, lettersOf}
 use Rattle.fasta.specs.Laws.Accepted.{AcceptedInput, reader-accepted, letters-first}
 use Rattle.listing.specs.Listing.{refusalLine}
 use Rattle.listing.specs.Laws.Listing.{listing-refused}
-use Rattle.listing.specs.Laws.Written.{printed-as}
+use Rattle.answer.specs.ContentLaws.{written-as}
 use borrow.Author.Needs.{needs}
 use Rattle.listing.proofs.list_repeats.Statement.{statement}
 use Rattle.listing.proofs.list_repeats.Tie as tie
@@ -63,7 +63,7 @@ returns c =
     let n = c .before .before .before .before .before .number .ensures ∙ ap numberIn told in
     let v = c .before .before .before .before .value .ensures ∙ ap valueIn told in
     let printed = listing-refused (start .args .input .now) _ _ (sym (answered (c .before .before .before .before .before .before .before .before .before .before)) ∙ told) in
-    printed-as (c .before .before .write-refusal .ensures) (ap₂ refusalLine n v ∙ sym printed)
+    written-as (c .before .before .write-refusal .ensures) (ap₂ refusalLine n v ∙ sym printed)
 
 cast-n : tie.Need-cast-n
 cast-n c = search needs

@@ -4,13 +4,13 @@ use mathlib.Core.Path.{sym, ap, _∙_}
 use native.Mathlib.Omega.{arith}
 use lib.ListN.{drop, length-drop}
 use Rattle.answer.specs.Limits.{maxLetters}
+use Rattle.answer.specs.ContentLaws.{written-as}
 use Rattle.fasta.specs.Name.{recordName}
 use Rattle.fasta.specs.Reader.{lettersOf}
 use Rattle.fasta.specs.Laws.Names.{name-within}
 use Rattle.fasta.specs.Laws.Accepted.{AcceptedInput, reader-accepted}
 use Rattle.listing.specs.Bed.{bedLines}
 use Rattle.listing.specs.Laws.Listing.{entries-held, runs-within, listing-accepted}
-use Rattle.listing.specs.Laws.Written.{written-first, printed-as}
 use borrow.Author.Needs.{needs}
 use Rattle.listing.proofs.write_accepted.Statement.{statement}
 use Rattle.listing.proofs.write_accepted.Tie as tie
@@ -33,8 +33,7 @@ returns c =
     let start = c .before .before .before .before .before .before .before in
     let x = start .args .input .now in
     let held = entries-held (start .args .runs .now) (lettersOf x) (start .args .count) (start .pre .1 .0) in
-    let record-written = c .before .before .write-record .ensures in
-    printed-as (written-first (record-written .0) (record-written .1))
+    written-as (c .before .before .write-record .ensures)
     (ap (bedLines (recordName x 0)) held ∙ sym (listing-accepted x (start .pre .0 .count) (start .pre .0 .accepted)))
 
 pub write-accepted-spec : {M : Type 1} → statement M

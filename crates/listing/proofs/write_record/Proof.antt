@@ -45,9 +45,7 @@ same-length : tie.Need-same-length
 same-length c = search needs
 
 returns : tie.Need-returns
-returns c =
-    let lines = c .before .before .write-lines .ensures in
-    (rw (named (c .before .before .before .before .before)) at (lines .0), lines .1)
+returns c = rw (named (c .before .before .before .before .before)) at (c .before .before .write-lines .ensures)
 
 pub write-record-spec : {M : Type 1} → statement M
 write-record-spec =

@@ -1,18 +1,18 @@
 -- `listing::write_refusal` meets its contract: the parts of the line, one behind the other.
 -- Assumes nothing.
-use Prim.Native.Nat.{_≤_}
+use Prim.Native.Nat.{_+_, _≤_}
 use native.Mathlib.Omega.{arith}
 use lib.ListN.{length}
+use Rattle.answer.specs.ContentLaws.{written-room, written-append}
 use Rattle.listing.specs.Decimal.{decimalOf}
 use Rattle.listing.specs.Laws.Decimal.{decimal-length}
-use Rattle.listing.specs.Laws.Written.{written-append, written-first}
 use borrow.Author.Needs.{needs}
 use Rattle.listing.proofs.write_refusal.Statement.{statement}
 use Rattle.listing.proofs.write_refusal.Tie as tie
 
--- The two numbers have at most ten digits each.
-digits : (c : tie.Start) → (length (decimalOf (c .args .number)) ≤ 10) × (length (decimalOf (c .args .position)) ≤ 10)
-digits c = (decimal-length 9 (c .args .number) (omega arith), decimal-length 9 (c .args .position) (omega arith))
+-- The room for the whole line: the two numbers have at most ten digits each.
+room : (c : tie.Start) → 0 + (8 + (length (decimalOf (c .args .number)) + (4 + (length (decimalOf (c .args .position)) + 1)))) ≤ length (c .args .out .now)
+room c = omega (arith, c .pre, decimal-length 9 (c .args .number) (omega arith), decimal-length 9 (c .args .position) (omega arith))
 
 slice-aggregate-write-bytes : tie.Need-slice-aggregate-write-bytes
 slice-aggregate-write-bytes c = search needs
@@ -24,7 +24,7 @@ write-decimal-requires : tie.Need-write-decimal-requires
 write-decimal-requires c κs =
     let word = c .before .before .before in
     let start = word .before .before .before .before in
-    omega (arith, start .pre, digits start .0, word .write-bytes .ensures .past, word .write-bytes .kept .1 .0)
+    omega (arith, written-room (word .write-bytes .ensures) _ (room start))
 
 slice-aggregate-write-bytes-2 : tie.Need-slice-aggregate-write-bytes-2
 slice-aggregate-write-bytes-2 c = search needs
@@ -34,15 +34,7 @@ write-bytes-requires-2 c κs =
     let number = c .before .before .before .before in
     let word = number .before .before .before .before in
     let start = word .before .before .before .before in
-    omega (
-      arith,
-      start .pre,
-      digits start .0,
-      word .write-bytes .ensures .past,
-      word .write-bytes .kept .1 .0,
-      number .write-decimal .ensures .past,
-      number .write-decimal .kept .1 .0,
-    )
+    omega (arith, written-room (number .write-decimal .ensures) _ (written-room (word .write-bytes .ensures) _ (room start)))
 
 write-decimal-requires-2 : tie.Need-write-decimal-requires-2
 write-decimal-requires-2 c κs =
@@ -52,15 +44,8 @@ write-decimal-requires-2 c κs =
     let start = word .before .before .before .before in
     omega (
       arith,
-      start .pre,
-      digits start .0,
-      digits start .1,
-      word .write-bytes .ensures .past,
-      word .write-bytes .kept .1 .0,
-      number .write-decimal .ensures .past,
-      number .write-decimal .kept .1 .0,
-      at .write-bytes2 .ensures .past,
-      at .write-bytes2 .kept .1 .0,
+      written-room (at .write-bytes2 .ensures) _
+          (written-room (number .write-decimal .ensures) _ (written-room (word .write-bytes .ensures) _ (room start))),
     )
 
 write-byte-requires : tie.Need-write-byte-requires
@@ -72,17 +57,9 @@ write-byte-requires c κs =
     let start = word .before .before .before .before in
     omega (
       arith,
-      start .pre,
-      digits start .0,
-      digits start .1,
-      word .write-bytes .ensures .past,
-      word .write-bytes .kept .1 .0,
-      number .write-decimal .ensures .past,
-      number .write-decimal .kept .1 .0,
-      at .write-bytes2 .ensures .past,
-      at .write-bytes2 .kept .1 .0,
-      position .write-decimal2 .ensures .past,
-      position .write-decimal2 .kept .1 .0,
+      written-room (position .write-decimal2 .ensures) _
+          (written-room (at .write-bytes2 .ensures) _
+          (written-room (number .write-decimal .ensures) _ (written-room (word .write-bytes .ensures) _ (room start)))),
     )
 
 same-length : tie.Need-same-length
@@ -95,24 +72,10 @@ returns c =
     let at = position .before .before .before .before in
     let number = at .before .before .before .before .before in
     let word = number .before .before .before .before in
-    let start = word .before .before .before .before in
-    let line =
     written-append (word .write-bytes .ensures)
     (written-append (number .write-decimal .ensures)
     (written-append (at .write-bytes2 .ensures)
-    (written-append (position .write-decimal2 .ensures) (byte .write-byte .ensures)))) in
-    written-first line
-    (omega (
-      arith,
-      start .pre,
-      digits start .0,
-      digits start .1,
-      word .write-bytes .ensures .past,
-      number .write-decimal .ensures .past,
-      at .write-bytes2 .ensures .past,
-      position .write-decimal2 .ensures .past,
-      byte .write-byte .ensures .past,
-    ))
+    (written-append (position .write-decimal2 .ensures) (byte .write-byte .ensures))))
 
 pub write-refusal-spec : {M : Type 1} → statement M
 write-refusal-spec =

@@ -8,9 +8,7 @@ use native.Mathlib.Decide.{decLt}
 use borrow.Author.Tests.{lt-ltb}
 use lib.ListN.{length, take, drop, take-append-drop, length-take}
 use lib.Seq.{take-at, take-all}
-use Rattle.words.specs.Equality.{decided-number-equality}
 use Rattle.words.specs.Runs.{Entry, numbers}
-use Rattle.words.specs.Compute.Runs.{runsOf}
 use Rattle.words.specs.Laws.Runs.{numbers-length}
 use Rattle.answer.specs.declared.Reason.{Reason}
 use Rattle.answer.specs.declared.Reason.the-variants.{FileTooLong}
@@ -19,6 +17,7 @@ use Rattle.answer.specs.declared.Outcome.the-variants.{Accepted, Refused}
 use Rattle.answer.specs.Checks.{written}
 use Rattle.answer.specs.Reasons.{numberOf}
 use Rattle.answer.specs.Limits.{maxLetters, maxInput}
+use Rattle.array.specs.Calls.{runList, runNumbers}
 use Rattle.fasta.specs.Reader.{readerAnswer}
 use Rattle.listing.specs.Bed.{entriesOf}
 use Rattle.listing.specs.Listing.{refusalLine, recordListing, HoldsRuns, listingFor, listingOf}
@@ -30,9 +29,9 @@ entries-numbers (r ∷ rs) rest = ap (λ (l : List Entry). r ∷ l) (entries-num
 
 module _ (list x : List ℕ) (count : ℕ) (h : HoldsRuns list x count) where
   -- The runs are read back from a list that holds them.
-  pub entries-held : entriesOf count list ≡ runsOf decided-number-equality x
+  pub entries-held : entriesOf count list ≡ runList x
   entries-held =
-      let rs : List Entry = runsOf decided-number-equality x in
+      let rs : List Entry = runList x in
       let e : list ≡ numbers rs ++ drop (3 * count) list = sym (take-append-drop (3 * count) list) ∙ ap (λ (l : List ℕ). l ++ drop (3 * count) list) (h .held) in
       ap (λ (k : ℕ). entriesOf k list) (h .counted)
       ∙ (ap (entriesOf (length rs)) e ∙ entries-numbers rs (drop (3 * count) list))
@@ -40,15 +39,15 @@ module _ (list x : List ℕ) (count : ℕ) (h : HoldsRuns list x count) where
   -- They have their place in it.
   pub runs-within : 3 * count ≤ length list
   runs-within =
-      let rs : List Entry = runsOf decided-number-equality x in
+      let rs : List Entry = runList x in
       omega (arith, numbers-length rs, h .counted, ap length (h .held), length-take (3 * count) list)
 
 -- A buffer into which all runs of x were written holds them.
 pub holds-written :
-    (before x : List ℕ) (count : ℕ) → count ≡ length (runsOf decided-number-equality x)
-    → HoldsRuns (written (numbers (runsOf decided-number-equality x)) before) x count
+    (before x : List ℕ) (count : ℕ) → count ≡ length (runList x)
+    → HoldsRuns (written (runNumbers x) before) x count
 holds-written before x count e =
-    let rs : List Entry = runsOf decided-number-equality x in
+    let rs : List Entry = runList x in
     record {
       counted = e;
       held = take-at (numbers rs) (drop (length (numbers rs)) before) (3 * count) (omega (arith, numbers-length rs));

@@ -2,7 +2,7 @@
 -- Assumes nothing.
 use mathlib.Core.Path.{sym}
 use lib.Seq.{length-take-le}
-use Rattle.listing.specs.Laws.Written.{printed-within}
+use Rattle.answer.specs.ContentLaws.{written-within}
 use borrow.Author.Needs.{needs}
 use Rattle.repeats.proofs.write_listing.Statement.{statement}
 use Rattle.repeats.proofs.write_listing.Tie as tie
@@ -11,7 +11,7 @@ list-requires : tie.Need-list-requires
 list-requires c κs = search needs
 
 slice-aggregate-write-all : tie.Need-slice-aggregate-write-all
-slice-aggregate-write-all c = sym (length-take-le _ _ (printed-within (c .before .before .before .list .ensures)))
+slice-aggregate-write-all c = sym (length-take-le _ _ (written-within (c .before .before .before .list .ensures)))
 
 write-all-requires : tie.Need-write-all-requires
 write-all-requires c κs = search needs

@@ -16,7 +16,7 @@ abbrev μ-loop : tie.MeasureT-loop
 μ-loop text order buf₀ list₀ from i₀ count₀ buf list i count = i
 
 loop-holds : tie.Need-loop-holds Inv-loop μ-loop
-loop-holds c = (omega arith, passing-start _ _ _ _ _)
+loop-holds c = (omega arith, passing-start _ _ _ _ _ (omega arith))
 
 sub-i : tie.Need-sub-i Inv-loop μ-loop
 sub-i c = search needs

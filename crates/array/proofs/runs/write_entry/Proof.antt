@@ -1,7 +1,8 @@
--- `array::runs::write_entry` meets its contract: three numbers are set.
+-- `array::runs::write_entry` meets its contract: three stores in a row.
 -- Assumes nothing.
 use native.Mathlib.Omega.{arith}
 use lib.ListN.{length-set}
+use Rattle.answer.specs.ContentLaws.{written-three}
 use borrow.Author.Needs.{needs}
 use Rattle.array.proofs.runs.write_entry.Statement.{statement}
 use Rattle.array.proofs.runs.write_entry.Tie as tie
@@ -52,7 +53,7 @@ same-length : tie.Need-same-length
 same-length c = search needs
 
 returns : tie.Need-returns
-returns c = search needs
+returns c = written-three _ _ _ _ _ _ (omega arith) (omega arith)
 
 pub write-entry-spec : {M : Type 1} → statement M
 write-entry-spec =

@@ -3,7 +3,8 @@
 use Prim.Native.Nat.{_-_}
 use native.Mathlib.Omega.{arith}
 use lib.ListN.{length}
-use Rattle.factors.proofs.Listing.{Listing, listing-start, listing-length, listing-next, listing-step, listing-end}
+use Rattle.answer.specs.ContentLaws.{written-size}
+use Rattle.factors.proofs.Listing.{Listing, listing-start, listing-next, listing-step, listing-end}
 use Rattle.factors.proofs.factorization.list_factors.Statement.{statement}
 use Rattle.factors.proofs.factorization.list_factors.Tie as tie
 
@@ -26,8 +27,7 @@ mul-out : tie.Need-mul-out Inv-loop μ-loop
 mul-out c = omega (arith, c .before .before .loop .inv .behind)
 
 slice-write-out : tie.Need-slice-write-out Inv-loop μ-loop
-slice-write-out c = omega
-    (arith, c .before .before .loop .inv .behind, listing-length _ _ _ _ _ _ (c .before .before .before .before .before .pre) (c .before .before .loop .inv))
+slice-write-out c = omega (arith, c .before .before .loop .inv .behind, written-size (c .before .before .loop .inv .content))
 
 add-count : tie.Need-add-count Inv-loop μ-loop
 add-count c = omega (arith, c .before .before .loop .inv .behind)
@@ -54,7 +54,7 @@ cast-result : tie.Need-cast-result Inv-loop μ-loop
 cast-result c = omega (arith, c .before .loop .inv .behind, c .before .loop .inv .inside)
 
 same-length : tie.Need-same-length Inv-loop μ-loop
-same-length c = listing-length _ _ _ _ _ _ (c .before .before .before .before .pre) (c .before .loop .inv)
+same-length c = written-size (c .before .loop .inv .content)
 
 returns : tie.Need-returns Inv-loop μ-loop
 returns c = listing-end _ _ _ _ _ _ (c .before .before .before .before .pre) (c .before .loop .inv) (c .loop-test .left)

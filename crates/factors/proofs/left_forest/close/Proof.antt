@@ -49,7 +49,7 @@ loop-again c =
     rw (c .wide .ensures) (closing-step _ _ _ _ _ _ (head .before .before .before .pre) (head .loop .inv) (turn .loop-test .taken))
 
 same-length : tie.Need-same-length Inv-loop μ-loop
-same-length c = c .before .loop .inv .size
+same-length c = c .before .loop .inv .others .size
 
 returns : tie.Need-returns Inv-loop μ-loop
 returns c = closing-end _ _ _ _ _ _ (c .before .before .before .before .pre) (c .before .loop .inv) (c .loop-test .left)

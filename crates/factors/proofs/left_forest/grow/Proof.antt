@@ -34,7 +34,7 @@ returns c =
     let tabled = linked .before .before .before .before .before in
     let entry = tabled .before .before .before .before .before in
     forest-written _ _ _ _ (entry .pre .1 .0) (entry .pre .1 .1) (tabled .fill-table .ensures) _ _ _ (linked .link .ensures) (entry .pre .0) _ _
-    (marked .mark-roots .kept .0) (marked .mark-roots .kept .1 .0) (marked .mark-roots .ensures .0) (marked .mark-roots .ensures .1)
+    (marked .mark-roots .ensures .0) (marked .mark-roots .ensures .1)
 
 pub grow-spec : {M : Type 1} → statement M
 grow-spec =

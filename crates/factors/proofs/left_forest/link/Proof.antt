@@ -66,14 +66,14 @@ loop-again c =
       reached = omega (arith, turn .loop-test .taken);
       crossed =
           crossed-step _ _ _ _ _ _ _ (head .before .before .before .pre) (head .loop .inv .crossed) (turn .loop-test .taken) _
-          (ap (λ (v : ℕ). head .loop .e + 1 - v) (widened .wide .ensures)) _ (closed .close .kept .1 .0) (closed .close .ensures);
+          (ap (λ (v : ℕ). head .loop .e + 1 - v) (widened .wide .ensures)) _ (closed .close .ensures);
     }
 
 same-length : tie.Need-same-length Inv-loop μ-loop
-same-length c = c .before .loop .inv .crossed .first-size
+same-length c = c .before .loop .inv .crossed .in-first .size
 
 same-length-2 : tie.Need-same-length-2 Inv-loop μ-loop
-same-length-2 c = c .before .loop .inv .crossed .past-size
+same-length-2 c = c .before .loop .inv .crossed .in-past .size
 
 returns : tie.Need-returns Inv-loop μ-loop
 returns c = reading-end _ _ _ _ _ _ _ (c .before .loop .inv) (c .loop-test .left)

@@ -62,15 +62,15 @@ slice-write-past-2 : tie.Need-slice-write-past-2 Inv-loop μ-loop
 slice-write-past-2 c = omega arith
 
 same-length : tie.Need-same-length Inv-loop μ-loop
-same-length c = simp length-set (c .before .loop .inv .in-first .size)
+same-length c = simp length-set (c .before .loop .inv .in-first .intact .size)
 
 same-length-2 : tie.Need-same-length-2 Inv-loop μ-loop
-same-length-2 c = simp length-set (c .before .loop .inv .in-past .size)
+same-length-2 c = simp length-set (c .before .loop .inv .in-past .intact .size)
 
 returns : tie.Need-returns Inv-loop μ-loop
 returns c = (
-  marking-end _ _ _ _ _ (c .before .loop .inv .in-first) (c .loop-test .left) (omega (arith, c .before .loop .inv .in-first .size)),
-  marking-end _ _ _ _ _ (c .before .loop .inv .in-past) (c .loop-test .left) (omega (arith, c .before .loop .inv .in-past .size)),
+  marking-end _ _ _ _ _ (c .before .loop .inv .in-first) (c .loop-test .left) (omega (arith, c .before .loop .inv .in-first .intact .size)),
+  marking-end _ _ _ _ _ (c .before .loop .inv .in-past) (c .loop-test .left) (omega (arith, c .before .loop .inv .in-past .intact .size)),
 )
 
 pub mark-roots-spec : {M : Type 1} → statement M

@@ -44,7 +44,7 @@ enum-told : tie.Need-enum-told Inv-loop μ-loop
 enum-told c = search needs
 
 same-length : tie.Need-same-length Inv-loop μ-loop
-same-length c = c .before .before .before .before .before .before .loop .inv .table .size ∙ simp length-set
+same-length c = c .before .before .before .before .before .before .loop .inv .table .others .size ∙ simp length-set
 
 returns : tie.Need-returns Inv-loop μ-loop
 returns c =
@@ -113,7 +113,7 @@ loop-again c =
     (c .match .came)
 
 same-length-2 : tie.Need-same-length-2 Inv-loop μ-loop
-same-length-2 c = c .before .loop .inv .table .size ∙ simp length-set
+same-length-2 c = c .before .loop .inv .table .others .size ∙ simp length-set
 
 returns-2 : tie.Need-returns-2 Inv-loop μ-loop
 returns-2 c =

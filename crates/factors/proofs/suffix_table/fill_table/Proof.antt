@@ -38,7 +38,7 @@ loop-again c =
     covering-step _ _ _ _ _ _ _ (head .loop .inv) (filled .fill-at .ensures)
 
 same-length : tie.Need-same-length Inv-loop μ-loop
-same-length c = c .before .loop .inv .size
+same-length c = c .before .loop .inv .others .size
 
 returns : tie.Need-returns Inv-loop μ-loop
 returns c = covering-end _ _ _ _ _ (c .before .loop .inv) (c .loop-test .left)

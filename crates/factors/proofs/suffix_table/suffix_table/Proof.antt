@@ -5,7 +5,7 @@ use native.Mathlib.Omega.{arith}
 use borrow.Author.Needs.{needs}
 use Rattle.answer.specs.Checks.{content-refused, content-accepted}
 use Rattle.answer.specs.CheckLaws.{length-empty, length-over, length-passes, output-short, output-passes}
-use Rattle.factors.proofs.Written.{tabled-written}
+use Rattle.factors.proofs.Tabling.{tabled-written}
 use Rattle.factors.proofs.suffix_table.suffix_table.Statement.{statement}
 use Rattle.factors.proofs.suffix_table.suffix_table.Tie as tie
 

@@ -6,7 +6,7 @@ use native.Mathlib.Omega.{arith}
 use lib.ListN.{length, getD}
 use Rattle.fasta.specs.declared.bytes.Kind.{Kind}
 use Rattle.fasta.specs.Lines.{letterBefore, letterAt}
-use Rattle.fasta.specs.Laws.Stores.{stored-none, stored-one}
+use Rattle.answer.specs.ContentLaws.{written-none, written-one}
 use borrow.Author.Needs.{needs}
 use Rattle.fasta.proofs.lines.keep_letter.Statement.{statement}
 use Rattle.fasta.proofs.lines.keep_letter.Tie as tie
@@ -57,28 +57,28 @@ same-length c = search needs
 returns : tie.Need-returns
 returns c =
     let args = c .before .before .before .before .before .before .before .args in
-    stored-one (args .letters .now) (args .count) (c .letter-of .result) (letterAt (args .input .now) (args .at))
-    (rw (c .letter-of .ensures) (by-kind (c .before .before .before .before) (c .before .before .enum-told .given .1)))
+    let is = by-kind (c .before .before .before .before) (c .before .before .enum-told .given .1) in
+    rw is (rw (← c .letter-of .ensures) (written-one (args .letters .now) (args .count) (c .letter-of .result) (omega (arith, ap length is))))
 
 returns-2 : tie.Need-returns-2
 returns-2 c =
     let args = c .before .before .before .before .before .args in
-    stored-none (args .letters .now) (args .count) _ (by-kind (c .before .before) (c .enum-told2 .given .1))
+    rw (by-kind (c .before .before) (c .enum-told2 .given .1)) (written-none (args .letters .now) (args .count) (omega arith))
 
 returns-3 : tie.Need-returns-3
 returns-3 c =
     let args = c .before .before .before .before .before .args in
-    stored-none (args .letters .now) (args .count) _ (by-kind (c .before .before) (c .enum-told3 .given .1))
+    rw (by-kind (c .before .before) (c .enum-told3 .given .1)) (written-none (args .letters .now) (args .count) (omega arith))
 
 returns-4 : tie.Need-returns-4
 returns-4 c =
     let args = c .before .before .before .before .before .args in
-    stored-none (args .letters .now) (args .count) _ (by-kind (c .before .before) (c .enum-told4 .given .1))
+    rw (by-kind (c .before .before) (c .enum-told4 .given .1)) (written-none (args .letters .now) (args .count) (omega arith))
 
 returns-5 : tie.Need-returns-5
 returns-5 c =
     let args = c .before .before .before .before .before .args in
-    stored-none (args .letters .now) (args .count) _ (by-kind (c .before .before) (c .enum-told5 .given .1))
+    rw (by-kind (c .before .before) (c .enum-told5 .given .1)) (written-none (args .letters .now) (args .count) (omega arith))
 
 pub keep-letter-spec : {M : Type 1} → statement M
 keep-letter-spec =

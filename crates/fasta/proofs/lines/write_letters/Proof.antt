@@ -1,13 +1,14 @@
--- `fasta::lines::write_letters` meets its contract. The loop's invariant: the letters that are left, stored behind those that are kept, make the buffer that is asked.
+-- `fasta::lines::write_letters` meets its contract. The loop's invariant: the letters from here on are pending.
 -- Assumes nothing.
-use mathlib.Core.Path.{_≡_, _∙_}
+use mathlib.Core.Path.{_≡_, refl, _∙_}
 use Prim.Native.Nat.{_+_, _≤_, _-_}
 use native.Mathlib.Omega.{arith}
 use borrow.Author.Needs.{needs}
 use lib.ListN.{length, drop}
-use lib.Seq.{sets}
+use Rattle.answer.specs.Content.{Pending}
+use Rattle.answer.specs.ContentLaws.{pending-all, pending-rest, pending-none, written-whole}
 use Rattle.fasta.specs.Lines.{lettersIn}
-use Rattle.fasta.proofs.Reading.{letters-over, letters-stored, letters-counted}
+use Rattle.fasta.proofs.Reading.{letters-over, letters-at, letters-counted}
 use Rattle.fasta.proofs.lines.write_letters.Statement.{statement}
 use Rattle.fasta.proofs.lines.write_letters.Tie as tie
 
@@ -16,13 +17,13 @@ Inv-loop input from letters₀ at₀ count₀ letters at count =
     (at ≤ length input)
     × (length letters ≡ length letters₀)
     × (count + length (lettersIn (drop at input)) ≤ length letters)
-    × (sets letters count (lettersIn (drop at input)) ≡ sets letters₀ 0 (lettersIn (drop from input)))
+    × Pending letters count (lettersIn (drop at input)) letters₀ 0 (lettersIn (drop from input))
 
 abbrev μ-loop : tie.MeasureT-loop
 μ-loop input from letters₀ at₀ count₀ letters at count = length input - at
 
 loop-holds : tie.Need-loop-holds Inv-loop μ-loop
-loop-holds c = search needs
+loop-holds c = (c .before .before .pre .0, refl, omega arith, pending-all _ _ _)
 
 keep-letter-requires : tie.Need-keep-letter-requires Inv-loop μ-loop
 keep-letter-requires c κs =
@@ -45,8 +46,8 @@ loop-again c =
     let counted = letters-counted x (loop .at) inside in (
       omega arith,
       kept .kept .1 .1 .0 ∙ loop .inv .1,
-      omega (arith, counted, kept .ensures .0, kept .kept .1 .1 .0, loop .inv .2),
-      letters-stored x (loop .at) inside (loop .letters) (loop .count) (kept .ensures .0) (kept .ensures .1) ∙ loop .inv .3,
+      omega (arith, counted, kept .ensures .past, kept .kept .1 .1 .0, loop .inv .2),
+      pending-rest (rw (letters-at x (loop .at) inside) at (loop .inv .3)) (kept .ensures),
     )
 
 same-length : tie.Need-same-length Inv-loop μ-loop
@@ -55,7 +56,7 @@ same-length c = c .before .loop .inv .1
 returns : tie.Need-returns Inv-loop μ-loop
 returns c =
     let loop = c .before .loop in
-    rw (letters-over _ (loop .at) (c .loop-test .left)) at (loop .inv .3)
+    written-whole (pending-none (rw (letters-over _ (loop .at) (c .loop-test .left)) at (loop .inv .3)) (omega (arith, loop .inv .2)))
 
 pub write-letters-spec : {M : Type 1} → statement M
 write-letters-spec =

@@ -13,9 +13,9 @@ use Rattle.answer.specs.Limits.{maxLength}
 use Rattle.answer.specs.Checks.{outputChecked, content-refused, content-told, content-accepted}
 use Rattle.answer.specs.CheckLaws.{length-empty, length-over, length-passes, output-short, output-passes}
 use Rattle.from_array.specs.Answers.{arrayChecked, rightForestAnswer}
-use Rattle.from_array.specs.Written.{ValuesHeld}
+use Rattle.answer.specs.Content.{Holds}
 use Rattle.from_array.proofs.Calls.{Accepting, accepting}
-use Rattle.from_array.proofs.Writing.{holds-written}
+use Rattle.answer.specs.ContentLaws.{holds-written}
 use Rattle.from_array.proofs.forest.right_forest.Statement.{statement}
 use Rattle.from_array.proofs.forest.right_forest.Tie as tie
 
@@ -81,7 +81,7 @@ abbrev told : tie.After-write-first → tie.After-known-told
 told c = c .before .before
 
 wrote-first : (c : tie.After-write-first)
-    → ValuesHeld (firstFor (a (start₄ (passed (told c))))) (length (a (start₄ (passed (told c))))) (first (start₄ (passed (told c))))
+    → Holds (firstFor (a (start₄ (passed (told c))))) (length (a (start₄ (passed (told c))))) (first (start₄ (passed (told c))))
     (c .write-first .last .1 .0)
 wrote-first c = c .write-first .ensures
 
@@ -175,7 +175,7 @@ write-past-requires c κs =
     let wrote = c .before .before .before .before in
     let e = passed (told wrote) in (
       record { valid = accepted-here (told wrote) .valid; short = short (e .before .before); fits = e .if4 .left },
-      (omega (arith, wrote-first wrote .size, e .before .if3 .left), wrote-first wrote .value),
+      (omega (arith, wrote-first wrote .others .size, e .before .if3 .left), wrote-first wrote .value),
     )
 
 accepted-requires : tie.Need-accepted-requires

@@ -8,8 +8,9 @@ use native.Mathlib.Omega.{arith}
 use lib.ListN.{length}
 use Rattle.words.specs.ArrayForest.{firstFor}
 use Rattle.words.specs.Laws.ValidSpans.{innermost-is, unheld-is}
-use Rattle.from_array.specs.Written.{ArrayRoom, ValuesHeld, Marked}
-use Rattle.from_array.proofs.Writing.{holds-after}
+use Rattle.answer.specs.Content.{Holds}
+use Rattle.answer.specs.ContentLaws.{holds-again}
+use Rattle.from_array.specs.Marked.{ArrayRoom, Marked}
 use Rattle.from_array.proofs.Filling.{Filling, filling-starts, filling-keeps, filling-goes-on, filling-ends}
 use Rattle.from_array.proofs.forest.write_first.Statement.{statement}
 use Rattle.from_array.proofs.forest.write_first.Tie as tie
@@ -36,7 +37,7 @@ own c = c .before .before .write-own .last .0
 room : (c : tie.After-slice-known2 Inv-loop μ-loop) → ArrayRoom (a c) (entry c)
 room c = at-start c .pre
 
-own-held : (c : tie.After-slice-known2 Inv-loop μ-loop) → ValuesHeld (λ j. j) (length (a c)) (entry c) (own c)
+own-held : (c : tie.After-slice-known2 Inv-loop μ-loop) → Holds (λ j. j) (length (a c)) (entry c) (own c)
 own-held c = c .before .before .write-own .ensures
 
 write-own-requires : tie.Need-write-own-requires Inv-loop μ-loop
@@ -59,7 +60,7 @@ mark-requires c κs =
       record {
         valid = room w .valid;
         short = room w .short;
-        fits = omega (arith, room w .fits, own-held w .size, at-loop .loop .inv .0 .size);
+        fits = omega (arith, room w .fits, own-held w .others .size, at-loop .loop .inv .0 .others .size);
       },
       c .before .loop-test .taken,
     )
@@ -90,12 +91,12 @@ loop-again c =
     )
 
 same-length : tie.Need-same-length Inv-loop μ-loop
-same-length c = c .before .loop .inv .0 .size ∙ own-held (c .before .before) .size
+same-length c = c .before .loop .inv .0 .others .size ∙ own-held (c .before .before) .others .size
 
 returns : tie.Need-returns Inv-loop μ-loop
 returns c =
     let w = c .before .before in
-    holds-after (λ j. j) (firstFor (a w)) (length (a w)) (entry w) (own w) (c .before .loop .first) (own-held w)
+    holds-again (own-held w)
     (filling-ends (firstFor (a w)) (firstFor (a w)) (a w) (own w) (room w .valid) (c .before .loop .i) (c .before .loop .first) (c .before .loop .inv .0)
     (c .loop-test .left))
 

@@ -3,13 +3,13 @@
 use mathlib.Core.Path.{_≡_, refl, subst}
 use Prim.Native.Nat.{ℕ, _-_, _≤_}
 use native.Mathlib.Omega.{arith}
-use Rattle.from_array.specs.Written.{ValuesHeld}
-use Rattle.from_array.proofs.Writing.{holds-none, holds-more}
+use Rattle.answer.specs.Content.{Holds}
+use Rattle.answer.specs.ContentLaws.{holds-none, holds-more}
 use Rattle.from_array.proofs.forest.write_own.Statement.{statement}
 use Rattle.from_array.proofs.forest.write_own.Tie as tie
 
 abbrev Inv-loop : tie.InvT-loop
-Inv-loop first₀ n k₀ first k = ValuesHeld (λ j. j) k first₀ first × (k ≤ n)
+Inv-loop first₀ n k₀ first k = Holds (λ j. j) k first₀ first × (k ≤ n)
 
 abbrev μ-loop : tie.MeasureT-loop
 μ-loop first₀ n k₀ first k = n - k
@@ -43,12 +43,12 @@ loop-again c =
     )
 
 same-length : tie.Need-same-length Inv-loop μ-loop
-same-length c = c .before .loop .inv .0 .size
+same-length c = c .before .loop .inv .0 .others .size
 
 returns : tie.Need-returns Inv-loop μ-loop
 returns c =
     let e : c .before .loop .k ≡ c .before .before .args .n = omega arith in
-    subst (λ (k : ℕ). ValuesHeld (λ j. j) k (c .before .before .args .first .now) (c .before .loop .first)) e (c .before .loop .inv .0)
+    subst (λ (k : ℕ). Holds (λ j. j) k (c .before .before .args .first .now) (c .before .loop .first)) e (c .before .loop .inv .0)
 
 pub write-own-spec : {M : Type 1} → statement M
 write-own-spec =

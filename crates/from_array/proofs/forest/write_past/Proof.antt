@@ -6,13 +6,14 @@ use Prim.Native.Nat.{ℕ, _-_, _<_, _≤_}
 use native.Mathlib.Omega.{arith}
 use lib.ListN.{length}
 use Rattle.words.specs.ArrayForest.{pastFor}
-use Rattle.from_array.specs.Written.{ArrayRoom, ValuesHeld}
-use Rattle.from_array.proofs.Writing.{holds-none, holds-more}
+use Rattle.answer.specs.Content.{Holds}
+use Rattle.answer.specs.ContentLaws.{holds-none, holds-more}
+use Rattle.from_array.specs.Marked.{ArrayRoom}
 use Rattle.from_array.proofs.forest.write_past.Statement.{statement}
 use Rattle.from_array.proofs.forest.write_past.Tie as tie
 
 abbrev Inv-loop : tie.InvT-loop
-Inv-loop array first past₀ j₀ past j = ValuesHeld (pastFor array) j past₀ past × (j ≤ length array)
+Inv-loop array first past₀ j₀ past j = Holds (pastFor array) j past₀ past × (j ≤ length array)
 
 abbrev μ-loop : tie.MeasureT-loop
 μ-loop array first past₀ j₀ past j = length array - j
@@ -56,7 +57,7 @@ mul-past : tie.Need-mul-past Inv-loop μ-loop
 mul-past c = omega (arith, c .before .before .loop-test .taken, room (c .before .before .before .before) .short)
 
 slice-write-past : tie.Need-slice-write-past Inv-loop μ-loop
-slice-write-past c = omega (arith, in-past (c .before .before), c .before .before .before .loop .inv .0 .size)
+slice-write-past c = omega (arith, in-past (c .before .before), c .before .before .before .loop .inv .0 .others .size)
 
 add-j : tie.Need-add-j Inv-loop μ-loop
 add-j c = omega (arith, c .before .before .loop-test .taken, room (c .before .before .before .before) .short)
@@ -75,13 +76,13 @@ loop-again c =
     )
 
 same-length : tie.Need-same-length Inv-loop μ-loop
-same-length c = c .before .loop .inv .0 .size
+same-length c = c .before .loop .inv .0 .others .size
 
 returns : tie.Need-returns Inv-loop μ-loop
 returns c =
     let w = c .before .before in
     let e : c .before .loop .j ≡ length (a w) = omega (arith, c .loop-test .left, c .before .loop .inv .1) in
-    subst (λ (k : ℕ). ValuesHeld (pastFor (a w)) k (entry w) (c .before .loop .past)) e (c .before .loop .inv .0)
+    subst (λ (k : ℕ). Holds (pastFor (a w)) k (entry w) (c .before .loop .past)) e (c .before .loop .inv .0)
 
 pub write-past-spec : {M : Type 1} → statement M
 write-past-spec =

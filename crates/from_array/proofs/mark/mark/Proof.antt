@@ -8,7 +8,7 @@ use lib.ListN.{length}
 use borrow.Author.Needs.{needs}
 use Rattle.words.specs.ValidArray.{Valid}
 use Rattle.words.specs.ArrayForest.{endOf}
-use Rattle.from_array.proofs.Writing.{Marking, marking-starts, marking-inside, marking-rises, marking-goes-on, marking-ends}
+use Rattle.from_array.proofs.Marking.{Marking, marking-starts, marking-inside, marking-rises, marking-goes-on, marking-ends}
 use Rattle.from_array.proofs.mark.mark.Statement.{statement}
 use Rattle.from_array.proofs.mark.mark.Tie as tie
 
@@ -65,7 +65,7 @@ mul-out : tie.Need-mul-out Inv-loop μ-loop
 mul-out c = omega (arith, in-array c, room (c .before .before), c .before .before .before .before .before .good)
 
 slice-write-out : tie.Need-slice-write-out Inv-loop μ-loop
-slice-write-out c = omega (arith, in-array c, room (c .before .before), c .before .loop .inv .size)
+slice-write-out c = omega (arith, in-array c, room (c .before .before), c .before .loop .inv .others .size)
 
 end-of-requires-2 : tie.Need-end-of-requires-2 Inv-loop μ-loop
 end-of-requires-2 c κs = in-array c
@@ -92,7 +92,7 @@ loop-again c =
     (room w))
 
 same-length : tie.Need-same-length Inv-loop μ-loop
-same-length c = c .before .loop .inv .size
+same-length c = c .before .loop .inv .others .size
 
 returns : tie.Need-returns Inv-loop μ-loop
 returns c =

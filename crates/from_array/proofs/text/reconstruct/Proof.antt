@@ -13,7 +13,7 @@ use Rattle.answer.specs.Checks.{outputChecked, content-refused, content-told, c
 use Rattle.answer.specs.CheckLaws.{length-empty, length-over, length-passes, output-short, output-passes}
 use Rattle.from_array.specs.Answers.{arrayChecked, reconstructAnswer}
 use Rattle.from_array.proofs.Calls.{Accepting, accepting}
-use Rattle.from_array.proofs.Writing.{holds-written}
+use Rattle.answer.specs.ContentLaws.{holds-written}
 use Rattle.from_array.proofs.text.reconstruct.Statement.{statement}
 use Rattle.from_array.proofs.text.reconstruct.Tie as tie
 

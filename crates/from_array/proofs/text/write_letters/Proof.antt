@@ -9,8 +9,9 @@ use lib.ListN.{length, getD, set}
 use Rattle.words.specs.ValidArray.{holding, letterFor}
 use Rattle.words.specs.Laws.ValidSpans.{end-inside}
 use Rattle.words.specs.Laws.ValidText.{depth-at-most, depth-of-root, depth-of-child, letter-below}
-use Rattle.from_array.specs.Written.{ArrayRoom, ValuesHeld, Marked}
-use Rattle.from_array.proofs.Writing.{Stored, stored, holds-after}
+use Rattle.answer.specs.Content.{Stored, Holds}
+use Rattle.answer.specs.ContentLaws.{stored, holds-again}
+use Rattle.from_array.specs.Marked.{ArrayRoom, Marked}
 use Rattle.from_array.proofs.Filling.{Filling, filling-starts, filling-here, filling-goes-on, filling-ends}
 use Rattle.from_array.proofs.text.write_letters.Statement.{statement}
 use Rattle.from_array.proofs.text.write_letters.Tie as tie
@@ -41,7 +42,7 @@ zeros c = c .before .before .write-zeros .last .0
 room : (c : tie.After-slice-known2 Inv-loop μ-loop) → ArrayRoom (a c) (entry c)
 room c = at-start c .pre
 
-zeros-held : (c : tie.After-slice-known2 Inv-loop μ-loop) → ValuesHeld (λ j. 0) (length (a c)) (entry c) (zeros c)
+zeros-held : (c : tie.After-slice-known2 Inv-loop μ-loop) → Holds (λ j. 0) (length (a c)) (entry c) (zeros c)
 zeros-held c = c .before .before .write-zeros .ensures
 
 -- In a turn: the position, the text, and what it holds there.
@@ -55,7 +56,7 @@ abbrev w : tie.In-loop Inv-loop μ-loop → tie.After-slice-known2 Inv-loop μ-l
 w c = c .before .before
 
 in-text : (c : tie.In-loop Inv-loop μ-loop) → i c < length (text c)
-in-text c = omega (arith, c .loop-test .taken, room (w c) .fits, zeros-held (w c) .size, c .before .loop .inv .0 .size)
+in-text c = omega (arith, c .loop-test .taken, room (w c) .fits, zeros-held (w c) .others .size, c .before .loop .inv .0 .others .size)
 
 depth-here : (c : tie.In-loop Inv-loop μ-loop) → getD (text c) (i c) 0 ≡ depth (a (w c)) (i c)
 depth-here c =
@@ -106,7 +107,7 @@ mark-requires c κs =
       record {
         valid = room (w t) .valid;
         short = room (w t) .short;
-        fits = omega (arith, room (w t) .fits, zeros-held (w t) .size, t .before .loop .inv .0 .size);
+        fits = omega (arith, room (w t) .fits, zeros-held (w t) .others .size, t .before .loop .inv .0 .others .size);
       },
       t .loop-test .taken,
     )
@@ -129,7 +130,7 @@ mul-text : tie.Need-mul-text Inv-loop μ-loop
 mul-text c = omega (arith, turn c .loop-test .taken, room (w (turn c)) .short)
 
 slice-write-text : tie.Need-slice-write-text Inv-loop μ-loop
-slice-write-text c = omega (arith, in-text (turn c), was-marked c .size)
+slice-write-text c = omega (arith, in-text (turn c), was-marked c .others .size)
 
 add-i : tie.Need-add-i Inv-loop μ-loop
 add-i c = omega (arith, turn c .loop-test .taken, room (w (turn c)) .short)
@@ -144,7 +145,7 @@ loop-again c =
     let d : ℕ = getD (text t) (i t) 0 in
     let letter : ℕ = d + (length (a (w t)) - c .end-of .result) in
     let s : Stored (i t) letter (marked c) (set (marked c) (i t) letter) =
-    stored (marked c) (i t) letter (omega (arith, in-text t, was-marked c .size)) in (
+    stored (marked c) (i t) letter (omega (arith, in-text t, was-marked c .others .size)) in (
       filling-goes-on (depth (a (w t))) (letterFor (a (w t))) (a (w t)) (zeros (w t)) v (i t) (d + 1) (text t) (marked c)
           (set (marked c) (i t) letter)
           (t .before .loop .inv .0)
@@ -156,12 +157,12 @@ loop-again c =
     )
 
 same-length : tie.Need-same-length Inv-loop μ-loop
-same-length c = c .before .loop .inv .0 .size ∙ zeros-held (c .before .before) .size
+same-length c = c .before .loop .inv .0 .others .size ∙ zeros-held (c .before .before) .others .size
 
 returns : tie.Need-returns Inv-loop μ-loop
 returns c =
     let b = c .before .before in
-    holds-after (λ j. 0) (letterFor (a b)) (length (a b)) (entry b) (zeros b) (c .before .loop .text) (zeros-held b)
+    holds-again (zeros-held b)
     (filling-ends (depth (a b)) (letterFor (a b)) (a b) (zeros b) (room b .valid) (c .before .loop .i) (c .before .loop .text) (c .before .loop .inv .0)
     (c .loop-test .left))
 

@@ -3,13 +3,13 @@
 use mathlib.Core.Path.{_≡_, refl, subst}
 use Prim.Native.Nat.{ℕ, _-_, _≤_}
 use native.Mathlib.Omega.{arith}
-use Rattle.from_array.specs.Written.{ValuesHeld}
-use Rattle.from_array.proofs.Writing.{holds-none, holds-more}
+use Rattle.answer.specs.Content.{Holds}
+use Rattle.answer.specs.ContentLaws.{holds-none, holds-more}
 use Rattle.from_array.proofs.text.write_zeros.Statement.{statement}
 use Rattle.from_array.proofs.text.write_zeros.Tie as tie
 
 abbrev Inv-loop : tie.InvT-loop
-Inv-loop text₀ n j₀ text j = ValuesHeld (λ k. 0) j text₀ text × (j ≤ n)
+Inv-loop text₀ n j₀ text j = Holds (λ k. 0) j text₀ text × (j ≤ n)
 
 abbrev μ-loop : tie.MeasureT-loop
 μ-loop text₀ n j₀ text j = n - j
@@ -39,12 +39,12 @@ loop-again c =
     )
 
 same-length : tie.Need-same-length Inv-loop μ-loop
-same-length c = c .before .loop .inv .0 .size
+same-length c = c .before .loop .inv .0 .others .size
 
 returns : tie.Need-returns Inv-loop μ-loop
 returns c =
     let e : c .before .loop .j ≡ c .before .before .args .n = omega arith in
-    subst (λ (k : ℕ). ValuesHeld (λ j. 0) k (c .before .before .args .text .now) (c .before .loop .text)) e (c .before .loop .inv .0)
+    subst (λ (k : ℕ). Holds (λ j. 0) k (c .before .before .args .text .now) (c .before .loop .text)) e (c .before .loop .inv .0)
 
 pub write-zeros-spec : {M : Type 1} → statement M
 write-zeros-spec =

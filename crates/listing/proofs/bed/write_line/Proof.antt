@@ -1,36 +1,31 @@
 -- `listing::bed::write_line` meets its contract: the parts of the line, one behind the other.
 -- Assumes nothing.
-use mathlib.Core.Path.{_≡_}
-use Prim.Native.Nat.{_+_}
+use Prim.Native.Nat.{_+_, _≤_}
 use native.Mathlib.Omega.{arith}
 use native.Mathlib.Numerals.{add-one}
 use lib.ListN.{length}
-use Rattle.listing.specs.Bed.{numberField, repeatField, bedLine, entryWith}
-use Rattle.listing.specs.Laws.Written.{written-append}
+use Rattle.answer.specs.ContentLaws.{written-room, written-append}
+use Rattle.listing.specs.Bed.{numberField, repeatField}
 use Rattle.listing.specs.Laws.Bed.{line-parts}
 use borrow.Author.Needs.{needs}
 use Rattle.listing.proofs.bed.write_line.Statement.{statement}
 use Rattle.listing.proofs.bed.write_line.Tie as tie
 
--- The parts of the line that is asked.
-parts :
-    (c : tie.Start) →
+-- The room that is left before each part of the line: for this part, and for those behind it.
+at-name : (c : tie.Start) →
     let args = c .args in
-    length (bedLine (args .name .now) (entryWith (args .start) (args .last) (args .period)))
-    ≡ length (args .name .now)
-    + (length (numberField (args .start)) + (length (numberField (args .last + 1)) + (length (repeatField (args .period)) + 1)))
-parts c = rw add-one (line-parts (c .args .name .now) (c .args .start) (c .args .last) (c .args .period))
+    args .at + (length (args .name .now)
+    + (length (numberField (args .start)) + (length (numberField (args .last + 1)) + (length (repeatField (args .period)) + 1)))) ≤ length (args .out .now)
+at-name c = rw (add-one (c .args .last)) (omega (arith, c .pre, line-parts (c .args .name .now) (c .args .start) (c .args .last) (c .args .period)))
 
 write-bytes-requires : tie.Need-write-bytes-requires
-write-bytes-requires c κs =
-    let start = c .before .before .before in
-    omega (arith, parts start, start .pre)
+write-bytes-requires c κs = omega (arith, at-name (c .before .before .before))
 
 write-number-requires : tie.Need-write-number-requires
 write-number-requires c κs =
     let name = c .before .before .before in
     let start = name .before .before .before .before in
-    omega (arith, parts start, start .pre, name .write-bytes .ensures .past, name .write-bytes .kept .1 .0)
+    omega (arith, written-room (name .write-bytes .ensures) _ (at-name start))
 
 add-write-number : tie.Need-add-write-number
 add-write-number c = search needs
@@ -40,15 +35,7 @@ write-number-requires-2 c κs =
     let first = c .before .before .before in
     let name = first .before .before .before .before in
     let start = name .before .before .before .before in
-    omega (
-      arith,
-      parts start,
-      start .pre,
-      name .write-bytes .ensures .past,
-      name .write-bytes .kept .1 .0,
-      first .write-number .ensures .past,
-      first .write-number .kept .1 .0,
-    )
+    omega (arith, written-room (first .write-number .ensures) _ (written-room (name .write-bytes .ensures) _ (at-name start)))
 
 write-repeat-requires : tie.Need-write-repeat-requires
 write-repeat-requires c κs =
@@ -58,14 +45,8 @@ write-repeat-requires c κs =
     let start = name .before .before .before .before in
     omega (
       arith,
-      parts start,
-      start .pre,
-      name .write-bytes .ensures .past,
-      name .write-bytes .kept .1 .0,
-      first .write-number .ensures .past,
-      first .write-number .kept .1 .0,
-      end .write-number2 .ensures .past,
-      end .write-number2 .kept .1 .0,
+      written-room (end .write-number2 .ensures) _
+          (written-room (first .write-number .ensures) _ (written-room (name .write-bytes .ensures) _ (at-name start))),
     )
 
 write-byte-requires : tie.Need-write-byte-requires
@@ -77,16 +58,9 @@ write-byte-requires c κs =
     let start = name .before .before .before .before in
     omega (
       arith,
-      parts start,
-      start .pre,
-      name .write-bytes .ensures .past,
-      name .write-bytes .kept .1 .0,
-      first .write-number .ensures .past,
-      first .write-number .kept .1 .0,
-      end .write-number2 .ensures .past,
-      end .write-number2 .kept .1 .0,
-      repeat .write-repeat .ensures .past,
-      repeat .write-repeat .kept .1 .0,
+      written-room (repeat .write-repeat .ensures) _
+          (written-room (end .write-number2 .ensures) _
+          (written-room (first .write-number .ensures) _ (written-room (name .write-bytes .ensures) _ (at-name start)))),
     )
 
 same-length : tie.Need-same-length

@@ -1,14 +1,14 @@
 -- `listing::bed::write_lines` meets its contract. The loop's invariant: the lines of the runs that are left are pending, and there is room for them.
 -- Assumes nothing.
-use mathlib.Core.Path.{_≡_, _∙_}
+use mathlib.Core.Path.{_≡_, refl, _∙_}
 use Prim.Native.Nat.{_+_, _*_, _≤_, _<_}
 use native.Mathlib.Omega.{arith}
 use borrow.Author.Needs.{needs}
 use lib.ListN.{length, getD, drop}
+use Rattle.answer.specs.Content.{Pending}
+use Rattle.answer.specs.ContentLaws.{pending-all, pending-rest, pending-none}
 use Rattle.listing.specs.Bed.{bedLine, bedLines, entryWith, entriesOf}
 use Rattle.listing.specs.Limits.{maxLine}
-use Rattle.listing.specs.Written.{Pending}
-use Rattle.listing.specs.Laws.Written.{pending-rest, pending-none}
 use Rattle.listing.specs.Laws.Bed.{line-length, lines-next, lines-none}
 use Rattle.listing.proofs.bed.write_lines.Statement.{statement}
 use Rattle.listing.proofs.bed.write_lines.Tie as tie
@@ -24,7 +24,7 @@ abbrev μ-loop : tie.MeasureT-loop
 μ-loop name runs count out₀ at from₀ left₀ next₀ out from left next = left
 
 loop-holds : tie.Need-loop-holds Inv-loop μ-loop
-loop-holds c = search needs
+loop-holds c = (omega arith, omega arith, refl, pending-all _ _ _)
 
 mul-start : tie.Need-mul-start Inv-loop μ-loop
 mul-start c = search needs
@@ -95,10 +95,9 @@ same-length c = search needs
 returns : tie.Need-returns Inv-loop μ-loop
 returns c =
     let loop = c .before .loop in
-    let args = c .before .before .before .before .before .args in (
-      pending-none (rw (lines-none (args .name .now) (loop .left) (drop (loop .from) (args .runs .now)) (c .loop-test .left)) at (loop .inv .3)),
-      omega (arith, loop .inv .1, loop .inv .2),
-    )
+    let args = c .before .before .before .before .before .args in
+    pending-none (rw (lines-none (args .name .now) (loop .left) (drop (loop .from) (args .runs .now)) (c .loop-test .left)) at (loop .inv .3))
+    (omega (arith, loop .inv .1))
 
 pub write-lines-spec : {M : Type 1} → statement M
 write-lines-spec =

@@ -1,6 +1,6 @@
 -- `listing::bed::write_number` meets its contract: the tab, and the number behind it.
 -- Assumes nothing.
-use Rattle.listing.specs.Laws.Written.{written-append}
+use Rattle.answer.specs.ContentLaws.{written-append}
 use borrow.Author.Needs.{needs}
 use Rattle.listing.proofs.bed.write_number.Statement.{statement}
 use Rattle.listing.proofs.bed.write_number.Tie as tie

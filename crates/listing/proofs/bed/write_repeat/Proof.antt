@@ -1,6 +1,6 @@
 -- `listing::bed::write_repeat` meets its contract: the tab with `p`, and the period behind them.
 -- Assumes nothing.
-use Rattle.listing.specs.Laws.Written.{written-append}
+use Rattle.answer.specs.ContentLaws.{written-append}
 use borrow.Author.Needs.{needs}
 use Rattle.listing.proofs.bed.write_repeat.Statement.{statement}
 use Rattle.listing.proofs.bed.write_repeat.Tie as tie

@@ -6,7 +6,7 @@ use native.Mathlib.Omega.{arith}
 use lib.ListN.{length}
 use Rattle.listing.specs.Decimal.{digit}
 use Rattle.listing.specs.Laws.Decimal.{decimal-one, decimal-more, decimal-length-more}
-use Rattle.listing.specs.Laws.Written.{written-one, written-append}
+use Rattle.answer.specs.ContentLaws.{written-one, written-room, written-append}
 use Prim.Native.Nat.{ℕ, _%_, _<_}
 use borrow.Fn.Kinds.{In}
 use borrow.Fn.PlainCycle.{Measures, is, falls, and}
@@ -110,7 +110,7 @@ write-decimal-returns : (t : ℕ) → write-decimal-lts.Need-returns (
 ) (write-decimal-at t) write-decimal.Post
 write-decimal-returns t c =
     let args = c .before .before .args in
-    rw (decimal-one (args .n) (c .if1 .taken)) (written-one (args .out .now) (args .at) (digit (args .n)))
+    rw (decimal-one (args .n) (c .if1 .taken)) (written-one (args .out .now) (args .at) (digit (args .n)) (omega (arith, ap length (decimal-one (args .n) (c .if1 .taken)))))
 
 write-decimal-same-length-2 : (t : ℕ) → write-decimal-lts.Need-same-length-2 (
   write-decimal-below t,
@@ -125,8 +125,9 @@ write-decimal-returns-2 : (t : ℕ) → write-decimal-lts.Need-returns-2 (
 write-decimal-returns-2 t c =
     let args = c .before .before .before .before .before .before .args in
     let called = c .before .before .write-decimal in
+    let more = decimal-length-more (args .n) (c .before .before .before .before .if1 .left) in
     rw (decimal-more (args .n) (c .before .before .before .before .if1 .left))
-    (written-append (called .ensures) (written-one (called .last .1 .0) (called .result) (digit (args .n % 10))))
+    (written-append (called .ensures) (written-one (called .last .1 .0) (called .result) (digit (args .n % 10)) (omega (arith, more, written-room (called .ensures) 1 (omega (arith, more))))))
 
 pub +write-decimal-spec : {M : Type 1} → statement M
 +write-decimal-spec = close μ-write-decimal λ t. write-decimal-lts.spec (

@@ -1,24 +1,26 @@
--- `listing::text::write_bytes` meets its contract. The loop's invariant: the bytes that are left, stored behind those that are written, make the buffer that is asked.
+-- `listing::text::write_bytes` meets its contract. The loop's invariant: the first bytes are written.
 -- Assumes nothing.
-use mathlib.Core.Path.{_≡_, _∙_}
+use mathlib.Core.Path.{_≡_, refl, _∙_}
 use Prim.Native.Nat.{_+_, _≤_, _-_}
 use native.Mathlib.Omega.{arith}
+use native.Mathlib.Numerals.{add-one}
 use borrow.Author.Needs.{needs}
-use lib.ListN.{length, drop, length-set, drop-of-length-le}
-use lib.Seq.{sets}
-use Rattle.listing.specs.Laws.Written.{stored-from}
+use lib.ListN.{length, getD, take, length-set}
+use lib.Seq.{take-suc, take-all}
+use Rattle.answer.specs.Content.{Written}
+use Rattle.answer.specs.ContentLaws.{written-none, written-one, written-append, written-as}
 use Rattle.listing.proofs.text.write_bytes.Statement.{statement}
 use Rattle.listing.proofs.text.write_bytes.Tie as tie
 
 abbrev Inv-loop : tie.InvT-loop
 Inv-loop part out₀ at i₀ next₀ out i next =
-    (i ≤ length part) × (next ≡ at + i) × (length out ≡ length out₀) × (sets out next (drop i part) ≡ sets out₀ at part)
+    (i ≤ length part) × (next ≡ at + i) × (length out ≡ length out₀) × Written out₀ out at next (take i part)
 
 abbrev μ-loop : tie.MeasureT-loop
 μ-loop part out₀ at i₀ next₀ out i next = length part - i
 
 loop-holds : tie.Need-loop-holds Inv-loop μ-loop
-loop-holds c = search needs
+loop-holds c = (omega arith, omega arith, refl, written-none _ _ (omega arith))
 
 shared-slice-read-out : tie.Need-shared-slice-read-out Inv-loop μ-loop
 shared-slice-read-out c = search needs
@@ -42,7 +44,8 @@ loop-again c =
       omega arith,
       omega arith,
       length-set (loop .out) (loop .next) _ ∙ loop .inv .2,
-      stored-from (loop .out) (loop .next) (args .part .now) (loop .i) (c .before .loop-test .taken) ∙ loop .inv .3,
+      rw (add-one (loop .i), take-suc (args .part .now) (loop .i) 0 (c .before .loop-test .taken))
+          (written-append (loop .inv .3) (written-one (loop .out) (loop .next) (getD (args .part .now) (loop .i) 0) (omega arith))),
     )
 
 same-length : tie.Need-same-length Inv-loop μ-loop
@@ -51,10 +54,7 @@ same-length c = search needs
 returns : tie.Need-returns Inv-loop μ-loop
 returns c =
     let loop = c .before .loop in
-    record {
-      past = omega arith;
-      content = rw (drop-of-length-le _ (c .loop-test .left)) at (loop .inv .3);
-    }
+    written-as (loop .inv .3) (take-all (loop .i) _ (c .loop-test .left))
 
 pub write-bytes-spec : {M : Type 1} → statement M
 write-bytes-spec =
