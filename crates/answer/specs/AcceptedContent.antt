@@ -18,8 +18,8 @@ pub record Sized (n : ℕ) : Type 0 where
   pub short : n ≤ maxLength
 
 -- Refusals 1 and 2 are not given for it.
-pub sized-passes : (n : ℕ) → Sized n → (rest : Answer) → lengthChecked n rest ≡ rest
-sized-passes n sized rest = length-passes n rest (λ e. omega (arith, sized .some)) (sized .short)
+pub sized-passes : (n : ℕ) → Sized n → (rest : Answer) → lengthChecked maxLength n rest ≡ rest
+sized-passes n sized rest = length-passes rest maxLength n (λ e. omega (arith, sized .some)) (sized .short)
 
 module _ (r : Answer) (count n : ℕ) (l before : List ℕ) (accepted : r ≡ acceptedWith count) (size : length l ≡ n) where
   -- The first n places, for what has n numbers.

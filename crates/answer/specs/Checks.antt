@@ -1,7 +1,7 @@
 -- The checks of document 01's table ("Where each check stands"), each with what follows where it does not refuse, and what a buffer holds after a call.
 -- Assumes nothing.
 use mathlib.Core.Path.{_≡_, sym, ap, _∙_}
-use mathlib.Core.Bool.{Bool, true, false}
+use mathlib.Core.Bool.{Bool, cond}
 use mathlib.Core.List.{List, _++_}
 use Prim.Native.Nat.{ℕ}
 use lib.Dec.{ltb, eqb}
@@ -9,31 +9,48 @@ use lib.ListN.{length, drop}
 use Rattle.answer.specs.declared.Answer.{Answer}
 use Rattle.answer.specs.declared.Outcome.{Outcome}
 use Rattle.answer.specs.declared.Outcome.the-variants.{Accepted, Refused}
+use Rattle.answer.specs.declared.checks.Check.{Check}
+use Rattle.answer.specs.declared.checks.Check.the-variants.{Passed, Failed}
 use Rattle.answer.specs.declared.Reason.{Reason}
 use Rattle.answer.specs.declared.Reason.the-variants.{EmptyText, TextTooLong, UnknownOrder, ShortOutput, ShortWork}
 use Rattle.answer.specs.Answers.{acceptedWith, refusedFor}
-use Rattle.answer.specs.Limits.{maxLength}
 
--- The first answer where the test passes, else the second.
-abbrev pub pickAnswer : Bool → Answer → Answer → Answer
-pickAnswer true a b = a
-pickAnswer false a b = b
+-- Refused where a check fails, else what follows.
+abbrev pub refusedIf : Bool → Reason → ℕ → Answer → Answer
+refusedIf fails reason position rest = cond fails (refusedFor reason position) rest
 
--- Refusals 1 and 2: a text or array of n letters or entries.
-abbrev pub lengthChecked : ℕ → Answer → Answer
-lengthChecked n rest = pickAnswer (eqb n 0) (refusedFor EmptyText 0) (pickAnswer (ltb maxLength n) (refusedFor TextTooLong 0) rest)
+-- Refusal 1: a text or array of n letters or entries.
+abbrev pub emptyChecked : ℕ → Answer → Answer
+emptyChecked n = refusedIf (eqb n 0) EmptyText 0
 
--- Refusal 3: the order number.
-abbrev pub orderChecked : ℕ → Answer → Answer
-orderChecked order rest = pickAnswer (ltb 1 order) (refusedFor UnknownOrder 0) rest
+-- Refusal 2: at most `limit` of them.
+abbrev pub limitChecked : ℕ → ℕ → Answer → Answer
+limitChecked limit n = refusedIf (ltb limit n) TextTooLong 0
+
+-- Refusals 1 and 2.
+abbrev pub lengthChecked : ℕ → ℕ → Answer → Answer
+lengthChecked limit n rest = emptyChecked n (limitChecked limit n rest)
+
+-- Refusal 3: the order number, at most `last`.
+abbrev pub orderChecked : ℕ → ℕ → Answer → Answer
+orderChecked last order = refusedIf (ltb last order) UnknownOrder 0
 
 -- Refusal 4: an output buffer that has `given` places and needs `needed`.
 abbrev pub outputChecked : ℕ → ℕ → Answer → Answer
-outputChecked needed given rest = pickAnswer (ltb given needed) (refusedFor ShortOutput 0) rest
+outputChecked needed given = refusedIf (ltb given needed) ShortOutput 0
 
 -- Refusal 5: the work buffer.
 abbrev pub workChecked : ℕ → ℕ → Answer → Answer
-workChecked needed given rest = pickAnswer (ltb given needed) (refusedFor ShortWork 0) rest
+workChecked needed given = refusedIf (ltb given needed) ShortWork 0
+
+-- The answer where `rest` follows the checks so far.
+abbrev pub answerTo : Check → Answer → Answer
+answerTo Passed rest = rest
+answerTo (Failed reason position) rest = refusedFor reason position
+
+-- A check more: where those before it pass, the answer is this check's.
+pub record Adds (earlier now : Check) (check : Answer → Answer) : Type 0 where
+  pub answer : (rest : Answer) → answerTo now rest ≡ answerTo earlier (check rest)
 
 -- A buffer into which l was written from its start: places past those written keep their content.
 abbrev pub written : List ℕ → List ℕ → List ℕ

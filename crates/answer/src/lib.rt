@@ -4,6 +4,7 @@
 //
 // Contracts cite `specs/Reasons.antt` and `specs/Answers.antt`, those of `limits` `specs/Limits.antt`.
 // Nothing is assumed.
+pub mod checks;
 pub mod limits;
 
 ghost use mathlib.Core.Path.{_≡_};

@@ -1,6 +1,6 @@
 // The limits of document 01 that the calls share, named here and in `specs/Limits.antt`. Nothing is assumed.
 ghost use mathlib.Core.Path.{_≡_};
-ghost use Rattle.answer.specs.Limits.{maxLength, maxLetters, maxInput, runListLength, workLength};
+ghost use Rattle.answer.specs.Limits.{maxLetters};
 
 // The most letters of a text, or entries of an array.
 pub const MAX_LENGTH: usize = 1_048_576;
@@ -11,37 +11,15 @@ pub const MAX_LETTERS: usize = 2_048;
 // The most bytes of a FASTA input.
 pub const MAX_INPUT: usize = 8_192;
 
-// `MAX_LENGTH`, as the limit that contracts name.
-pub fn max_length() -> usize
-    ensures limit { λ r. ⌜ r ≡ maxLength ⌝ }
-{
-    MAX_LENGTH
-}
+// The places of the run list for each letter of the text.
+pub const LIST_PLACES: usize = 6;
+
+// The places of the work buffer of the runs for each letter.
+pub const WORK_PLACES: usize = 2;
 
 // `MAX_LETTERS`, as the limit that contracts name.
 pub fn max_letters() -> usize
     ensures limit { λ r. ⌜ r ≡ maxLetters ⌝ }
 {
     MAX_LETTERS
-}
-
-// `MAX_INPUT`, as the limit that contracts name.
-pub fn max_input() -> usize
-    ensures limit { λ r. ⌜ r ≡ maxInput ⌝ }
-{
-    MAX_INPUT
-}
-
-// The length that the run list of a text of n letters needs.
-pub fn run_list_length(n: u32) -> usize
-    ensures length { λ r. ⌜ r ≡ runListLength n ⌝ }
-{
-    6 * (n as usize)
-}
-
-// The length that the work buffer of the runs needs.
-pub fn work_length(n: u32) -> usize
-    ensures length { λ r. ⌜ r ≡ workLength n ⌝ }
-{
-    2 * (n as usize)
 }

@@ -32,8 +32,8 @@ module _ (x : List ℕ) (sized : Sized (length x)) (order : ℕ) (named : order 
   pub array-accepts : arrayAnswer (length x) order (length out) ≡ acceptedWith (length x)
   array-accepts =
       let n = length x in
-      sized-passes n sized (orderChecked order (outputChecked n (length out) (acceptedWith n))) ∙
-      order-passes order (outputChecked n (length out) (acceptedWith n)) named ∙ output-passes n (acceptedWith n) (length out) room
+      sized-passes n sized (orderChecked 1 order (outputChecked n (length out) (acceptedWith n))) ∙
+      order-passes (outputChecked n (length out) (acceptedWith n)) 1 order named ∙ output-passes (acceptedWith n) n (length out) room
 
   is-array : IsLyndonArray (orderOf order) x (arrayOf (decided-order order) x)
   is-array = arrayOf-holds (decided-order order) x
@@ -71,8 +71,8 @@ module _
         let n = length x in
         let yes = acceptedWith (length (runList x)) in
         sized-passes n sized (outputChecked (runListLength n) (length list) (workChecked (workLength n) (length work) yes)) ∙
-        output-passes (runListLength n) (workChecked (workLength n) (length work) yes) (length list) list-room ∙
-        work-passes (workLength n) yes (length work) work-room
+        output-passes (workChecked (workLength n) (length work) yes) (runListLength n) (length list) list-room ∙
+        work-passes yes (workLength n) (length work) work-room
 
     -- That list holds every run of the text once, and nothing else, by start and then by last position.
     pub runs-listed : IsRunList x (runList x)

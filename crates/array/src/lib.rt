@@ -7,7 +7,6 @@
 // definitions of the crate `words`. Nothing is assumed.
 mod agreement;
 pub mod bytes;
-mod checks;
 mod joined;
 pub mod numbers;
 mod places;

@@ -1,9 +1,10 @@
 // The Lyndon array of a text of 32-bit letters.
-use crate::checks;
 use crate::joined::Joined;
 use crate::places;
 use answer::Answer;
-use answer::Outcome;
+use answer::checks;
+use answer::checks::Check;
+use answer::limits;
 use letters::Comparison;
 ghost use mathlib.Core.Path.{_≡_};
 ghost use Prim.Native.Nat.{_+_, _-_, _≤_, _<_};
@@ -127,16 +128,15 @@ pub fn lyndon_array(text: &[u32], order: u32, out: &mut [u32]) -> Answer
     ensures answer { λ r. ⌜ r ≡ arrayAnswer (length (now (text .entry))) order (length (now (out .entry))) ⌝ }
     ensures content { λ r. ⌜ now (out .exit) ≡ contentAfter r (arrayOf (decided-order order) (now (text .entry))) (now (out .entry)) ⌝ }
 {
-    let told = checks::array_answer(text.len(), order, out.len());
-    let outcome = told.outcome;
-    match outcome {
-        Outcome::Accepted { count: _ } => {
+    let n = text.len();
+    let c = checks::length(Check::Passed, limits::MAX_LENGTH, n);
+    let c = checks::order(c, 1, order);
+    let c = checks::output(c, n, out.len());
+    match c {
+        Check::Failed { reason, position } => answer::refused(reason, position),
+        Check::Passed => {
             compute(text, order, out);
-            told
+            answer::accepted(n as u32)
         }
-        Outcome::Refused {
-            reason: _,
-            position: _,
-        } => told,
     }
 }

@@ -3,7 +3,8 @@ use crate::agreement;
 use crate::bytes;
 use crate::places;
 use answer::Answer;
-use answer::Reason;
+use answer::checks;
+use answer::checks::Check;
 use answer::limits;
 use letters::Comparison;
 ghost use mathlib.Core.Path.{_≡_};
@@ -169,17 +170,11 @@ pub fn runs(text: &[u8], work: &mut [u32], list: &mut [u32]) -> Answer
     ensures arrays { λ r. ⌜ now (work .exit) ≡ contentAfter r (bothArrays (now (text .entry))) (now (work .entry)) ⌝ }
 {
     let n = text.len();
-    if n == 0 {
-        return answer::refused(Reason::EmptyText, 0);
+    let c = checks::length(Check::Passed, limits::MAX_LENGTH, n);
+    let c = checks::run_list(c, n, list.len());
+    let c = checks::run_work(c, n, work.len());
+    match c {
+        Check::Failed { reason, position } => answer::refused(reason, position),
+        Check::Passed => answer::accepted(find(text, work, list) as u32),
     }
-    if limits::MAX_LENGTH < n {
-        return answer::refused(Reason::TextTooLong, 0);
-    }
-    if list.len() < limits::run_list_length(n as u32) {
-        return answer::refused(Reason::ShortOutput, 0);
-    }
-    if work.len() < limits::work_length(n as u32) {
-        return answer::refused(Reason::ShortWork, 0);
-    }
-    answer::accepted(find(text, work, list) as u32)
 }

@@ -13,6 +13,7 @@ use Rattle.words.specs.Compute.SuffixTable.{suffixTableOf, suffixTableOf-holds}
 use Rattle.words.specs.Compute.LeftForest.{leftFirstOf, leftPastOf}
 use Rattle.words.specs.Laws.ForestRecords.{leftForestOf-holds}
 use Rattle.answer.specs.Answers.{acceptedWith}
+use Rattle.answer.specs.Limits.{maxLength}
 use Rattle.answer.specs.Checks.{lengthChecked, outputChecked, contentAfter}
 use Rattle.answer.specs.CheckLaws.{output-passes}
 use Rattle.answer.specs.AcceptedContent.{Sized, sized-passes, written-first, written-rest}
@@ -45,10 +46,10 @@ leftPastAfter x first past = contentAfter (leftForestAnswer x (length first) (le
 
 -- One buffer that is long enough.
 module _ (x : List ℕ) (sized : Sized (length x)) (out : List ℕ) (room : length x ≤ length out) where
-  accepts : (count : ℕ) → lengthChecked (length x) (outputChecked (length x) (length out) (acceptedWith count)) ≡ acceptedWith count
+  accepts : (count : ℕ) → lengthChecked maxLength (length x) (outputChecked (length x) (length out) (acceptedWith count)) ≡ acceptedWith count
   accepts count =
       sized-passes (length x) sized (outputChecked (length x) (length out) (acceptedWith count)) ∙
-      output-passes (length x) (acceptedWith count) (length out) room
+      output-passes (acceptedWith count) (length x) (length out) room
 
   -- `factorization` refuses no text; the count is the number of factors.
   pub factorization-accepts : factorizationAnswer x (length out) ≡ acceptedWith (length (factorizationOf decided-default x))
@@ -94,7 +95,7 @@ module _ (x : List ℕ) (sized : Sized (length x)) (first past : List ℕ) (firs
   left-forest-accepts =
       let n = length x in
       sized-passes n sized (outputChecked n (length first) (outputChecked n (length past) (acceptedWith n))) ∙
-      output-passes n (outputChecked n (length past) (acceptedWith n)) (length first) first-room ∙ output-passes n (acceptedWith n) (length past) past-room
+      output-passes (outputChecked n (length past) (acceptedWith n)) n (length first) first-room ∙ output-passes (acceptedWith n) n (length past) past-room
 
   -- The first n places of both buffers hold the left forest of the text.
   pub left-forest-written : IsLeftForest defaultOrder x (take (length x) (leftFirstAfter x first past)) (take (length x) (leftPastAfter x first past))

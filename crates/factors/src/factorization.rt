@@ -2,7 +2,8 @@
 use super::scan::Stretch;
 use super::scan::stretch_at;
 use answer::Answer;
-use answer::Reason;
+use answer::checks;
+use answer::checks::Check;
 use answer::limits;
 ghost use mathlib.Core.Path.{_≡_};
 ghost use lib.ListN.{length};
@@ -36,15 +37,13 @@ pub fn factorization(text: &[u8], out: &mut [u32]) -> Answer
     ensures content { λ r. ⌜ now (out .exit) ≡ contentAfter r (factorizationOf decided-default (now (text .entry))) (now (out .entry)) ⌝ }
 {
     let n = text.len();
-    if n == 0 {
-        return answer::refused(Reason::EmptyText, 0);
+    let c = checks::length(Check::Passed, limits::MAX_LENGTH, n);
+    let c = checks::output(c, n, out.len());
+    match c {
+        Check::Failed { reason, position } => answer::refused(reason, position),
+        Check::Passed => {
+            let count = list_factors(text, out);
+            answer::accepted(count)
+        }
     }
-    if n > limits::max_length() {
-        return answer::refused(Reason::TextTooLong, 0);
-    }
-    if out.len() < n {
-        return answer::refused(Reason::ShortOutput, 0);
-    }
-    let count = list_factors(text, out);
-    answer::accepted(count)
 }

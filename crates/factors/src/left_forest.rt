@@ -1,7 +1,8 @@
 // The left forest of a byte text.
 use super::suffix_table::fill_table;
 use answer::Answer;
-use answer::Reason;
+use answer::checks;
+use answer::checks::Check;
 use answer::limits;
 use letters::wide;
 ghost use mathlib.Core.Path.{_≡_};
@@ -83,18 +84,14 @@ pub fn left_forest(text: &[u8], first: &mut [u32], past: &mut [u32]) -> Answer
     ensures ends { λ r. ⌜ now (past .exit) ≡ contentAfter r (leftPastOf decided-default (now (text .entry)) (factorizationOf decided-default (now (text .entry)))) (now (past .entry)) ⌝ }
 {
     let n = text.len();
-    if n == 0 {
-        return answer::refused(Reason::EmptyText, 0);
+    let c = checks::length(Check::Passed, limits::MAX_LENGTH, n);
+    let c = checks::output(c, n, first.len());
+    let c = checks::output(c, n, past.len());
+    match c {
+        Check::Failed { reason, position } => answer::refused(reason, position),
+        Check::Passed => {
+            grow(text, first, past);
+            answer::accepted(n as u32)
+        }
     }
-    if n > limits::max_length() {
-        return answer::refused(Reason::TextTooLong, 0);
-    }
-    if first.len() < n {
-        return answer::refused(Reason::ShortOutput, 0);
-    }
-    if past.len() < n {
-        return answer::refused(Reason::ShortOutput, 0);
-    }
-    grow(text, first, past);
-    answer::accepted(n as u32)
 }

@@ -2,7 +2,8 @@
 use super::order::compare;
 use super::scan::Stretch;
 use answer::Answer;
-use answer::Reason;
+use answer::checks;
+use answer::checks::Check;
 use answer::limits;
 use letters::Comparison;
 ghost use mathlib.Core.Path.{_≡_};
@@ -78,15 +79,13 @@ pub fn suffix_table(text: &[u8], out: &mut [u32]) -> Answer
     ensures content { λ r. ⌜ now (out .exit) ≡ contentAfter r (suffixTableOf decided-default (now (text .entry))) (now (out .entry)) ⌝ }
 {
     let n = text.len();
-    if n == 0 {
-        return answer::refused(Reason::EmptyText, 0);
+    let c = checks::length(Check::Passed, limits::MAX_LENGTH, n);
+    let c = checks::output(c, n, out.len());
+    match c {
+        Check::Failed { reason, position } => answer::refused(reason, position),
+        Check::Passed => {
+            fill_table(text, out);
+            answer::accepted(n as u32)
+        }
     }
-    if n > limits::max_length() {
-        return answer::refused(Reason::TextTooLong, 0);
-    }
-    if out.len() < n {
-        return answer::refused(Reason::ShortOutput, 0);
-    }
-    fill_table(text, out);
-    answer::accepted(n as u32)
 }

@@ -9,7 +9,7 @@ use lib.ListN.{length, drop}
 use Rattle.answer.specs.declared.Answer.{Answer}
 use Rattle.answer.specs.declared.Reason.the-variants.{NoHeader, BadName, SecondRecord, NoLetters, FileTooLong}
 use Rattle.answer.specs.Answers.{acceptedWith, refusedFor}
-use Rattle.answer.specs.Checks.{pickAnswer, outputChecked}
+use Rattle.answer.specs.Checks.{refusedIf, outputChecked}
 use Rattle.answer.specs.Limits.{maxLetters, maxInput}
 use Rattle.fasta.specs.declared.name.Name.{Name}
 use Rattle.fasta.specs.declared.name.Name.the-variants.{Named, Misnamed}
@@ -47,11 +47,11 @@ recordLetters x p = lettersIn (drop (linesStart x p) x)
 abbrev pub answerFor : Ending → Answer
 answerFor (RefusedAt reason p) = refusedFor reason p
 answerFor (NextRecord count p) = refusedFor SecondRecord p
-answerFor (Finished count p) = pickAnswer (eqb count 0) (refusedFor NoLetters p) (acceptedWith count)
+answerFor (Finished count p) = refusedIf (eqb count 0) NoLetters p (acceptedWith count)
 
 -- Refusal 15: an input of n bytes.
 abbrev pub sizeChecked : ℕ → Answer → Answer
-sizeChecked n rest = pickAnswer (ltb maxInput n) (refusedFor FileTooLong maxInput) rest
+sizeChecked n = refusedIf (ltb maxInput n) FileTooLong maxInput
 
 -- What the reader answers to the input x with a letters buffer of so many places.
 abbrev pub readerAnswer : List ℕ → ℕ → Answer

@@ -22,8 +22,10 @@ use answer::Answer;
 use answer::Outcome;
 use answer::Reason;
 use answer::accepted;
-use answer::limits::max_input;
-use answer::limits::max_letters;
+use answer::checks;
+use answer::checks::Check;
+use answer::limits::MAX_INPUT;
+use answer::limits::MAX_LETTERS;
 use answer::refused;
 
 // How the record ends that starts at `from`.
@@ -88,11 +90,15 @@ pub fn read(input: &[u8], letters: &mut [u8]) -> Answer
     ensures answer { λ r. ⌜ r ≡ readerAnswer (now (input .entry)) (length (now (letters .entry))) ⌝ }
     ensures content { λ r. ⌜ now (letters .exit) ≡ contentAfter r (lettersOf (now (input .entry))) (now (letters .entry)) ⌝ }
 {
-    if letters.len() < max_letters() {
-        return refused(Reason::ShortOutput, 0);
+    let c = checks::output(Check::Passed, MAX_LETTERS, letters.len());
+    let c = checks::refuse_if(
+        c,
+        MAX_INPUT < input.len(),
+        Reason::FileTooLong,
+        MAX_INPUT as u32,
+    );
+    match c {
+        Check::Failed { reason, position } => refused(reason, position),
+        Check::Passed => read_record(input, letters),
     }
-    if max_input() < input.len() {
-        return refused(Reason::FileTooLong, max_input() as u32);
-    }
-    read_record(input, letters)
 }

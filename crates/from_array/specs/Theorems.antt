@@ -77,7 +77,7 @@ module _ (a : List ℕ) (sized : Sized (length a)) (text : List ℕ) (room : len
   pub reconstruct-checked : reconstructAnswer a (length text) ≡ arrayChecked a
   reconstruct-checked =
       sized-passes (length a) sized (outputChecked (length a) (length text) (arrayChecked a)) ∙
-      output-passes (length a) (arrayChecked a) (length text) room
+      output-passes (arrayChecked a) (length a) (length text) room
 
   -- It refuses the array exactly when no text over any totally ordered letters has it.
   pub reconstruct-refuses-exactly {ℓ κ} : RefusesArray (reconstructAnswer a (length text)) ↔ (¬ TextWith {ℓ, κ} a)
@@ -110,8 +110,8 @@ module _ (a : List ℕ) (sized : Sized (length a)) (first past : List ℕ) (firs
   pub right-forest-checked : rightForestAnswer a (length first) (length past) ≡ arrayChecked a
   right-forest-checked =
       sized-passes (length a) sized (outputChecked (length a) (length first) (outputChecked (length a) (length past) (arrayChecked a))) ∙
-      output-passes (length a) (outputChecked (length a) (length past) (arrayChecked a)) (length first) first-room ∙
-      output-passes (length a) (arrayChecked a) (length past) past-room
+      output-passes (outputChecked (length a) (length past) (arrayChecked a)) (length a) (length first) first-room ∙
+      output-passes (arrayChecked a) (length a) (length past) past-room
 
   -- It refuses the array exactly when no text over any totally ordered letters has it.
   pub right-forest-refuses-exactly {ℓ κ} : RefusesArray (rightForestAnswer a (length first) (length past)) ↔ (¬ TextWith {ℓ, κ} a)

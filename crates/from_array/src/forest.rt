@@ -5,7 +5,8 @@ use super::entries::end_of;
 use super::mark::mark;
 use answer::Answer;
 use answer::Outcome;
-use answer::Reason;
+use answer::checks;
+use answer::checks::Check;
 use answer::limits;
 ghost use Prim.Native.Nat.{ℕ, _<_, _≤_};
 ghost use mathlib.Core.Path.{_≡_};
@@ -80,24 +81,20 @@ pub fn right_forest(array: &[u32], first: &mut [u32], past: &mut [u32]) -> Answe
     ensures ends { λ r. ⌜ now (past .exit) ≡ contentAfter r (forestPast (now (array .entry))) (now (past .entry)) ⌝ }
 {
     let n = array.len();
-    if n == 0 {
-        return answer::refused(Reason::EmptyText, 0);
+    let c = checks::length(Check::Passed, limits::MAX_LENGTH, n);
+    let c = checks::output(c, n, first.len());
+    let c = checks::output(c, n, past.len());
+    match c {
+        Check::Failed { reason, position } => answer::refused(reason, position),
+        Check::Passed => {
+            let verdict = check(array);
+            let outcome = verdict.outcome;
+            let Outcome::Accepted { count } = outcome else {
+                return verdict;
+            };
+            write_first(array, first);
+            write_past(array, first, past);
+            answer::accepted(count)
+        }
     }
-    if n > limits::max_length() {
-        return answer::refused(Reason::TextTooLong, 0);
-    }
-    if first.len() < n {
-        return answer::refused(Reason::ShortOutput, 0);
-    }
-    if past.len() < n {
-        return answer::refused(Reason::ShortOutput, 0);
-    }
-    let verdict = check(array);
-    let outcome = verdict.outcome;
-    let Outcome::Accepted { count } = outcome else {
-        return verdict;
-    };
-    write_first(array, first);
-    write_past(array, first, past);
-    answer::accepted(count)
 }

@@ -5,7 +5,8 @@ use super::entries::end_of;
 use super::mark::mark;
 use answer::Answer;
 use answer::Outcome;
-use answer::Reason;
+use answer::checks;
+use answer::checks::Check;
 use answer::limits;
 ghost use mathlib.Core.Path.{_≡_};
 ghost use Prim.Native.Nat.{_<_, _≤_};
@@ -52,20 +53,18 @@ pub fn reconstruct(array: &[u32], text: &mut [u32]) -> Answer
     ensures content { λ r. ⌜ now (text .exit) ≡ contentAfter r (textFor (now (array .entry))) (now (text .entry)) ⌝ }
 {
     let n = array.len();
-    if n == 0 {
-        return answer::refused(Reason::EmptyText, 0);
+    let c = checks::length(Check::Passed, limits::MAX_LENGTH, n);
+    let c = checks::output(c, n, text.len());
+    match c {
+        Check::Failed { reason, position } => answer::refused(reason, position),
+        Check::Passed => {
+            let verdict = check(array);
+            let outcome = verdict.outcome;
+            let Outcome::Accepted { count } = outcome else {
+                return verdict;
+            };
+            write_letters(array, text);
+            answer::accepted(count)
+        }
     }
-    if n > limits::max_length() {
-        return answer::refused(Reason::TextTooLong, 0);
-    }
-    if text.len() < n {
-        return answer::refused(Reason::ShortOutput, 0);
-    }
-    let verdict = check(array);
-    let outcome = verdict.outcome;
-    let Outcome::Accepted { count } = outcome else {
-        return verdict;
-    };
-    write_letters(array, text);
-    answer::accepted(count)
 }

@@ -1,29 +1,19 @@
 -- What each small function on the buffer asks for and leaves in it.
 -- Assumes nothing.
-use mathlib.Core.Bool.{Bool, true, false}
+use mathlib.Core.Bool.{cond}
 use mathlib.Core.List.{List}
 use Prim.Native.Nat.{ℕ, _+_, _<_, _≤_, _-_}
 use lib.Dec.{ltb}
 use lib.ListN.{length, getD, set}
 use Rattle.answer.specs.Limits.{maxLength}
 
--- The first of two numbers where the test passes, else the second.
-abbrev pub pickNumber : Bool → ℕ → ℕ → ℕ
-pickNumber true a b = a
-pickNumber false a b = b
-
 -- The number remembered at the last place of the factor of length l at j; 0 for a single letter.
 abbrev pub rememberedAt : List ℕ → ℕ → ℕ → ℕ
-rememberedAt buf j l = pickNumber (ltb 1 l) (getD buf (j + l - 1) 0) 0
-
--- The same for lists.
-abbrev pub pickList : Bool → List ℕ → List ℕ → List ℕ
-pickList true a b = a
-pickList false a b = b
+rememberedAt buf j l = cond (ltb 1 l) (getD buf (j + l - 1) 0) 0
 
 -- The buffer after the last place of the factor of length l at j has its entry 1 back.
 abbrev pub restoredAt : List ℕ → ℕ → ℕ → List ℕ
-restoredAt buf j l = pickList (ltb 1 l) (set buf (j + l - 1) 1) buf
+restoredAt buf j l = cond (ltb 1 l) (set buf (j + l - 1) 1) buf
 
 -- What storing asks for: the word from i to e lies inside the buffer, and s fits where it is stored.
 pub record StoreReady (buf : List ℕ) (i e s : ℕ) : Type 0 where
@@ -34,4 +24,4 @@ pub record StoreReady (buf : List ℕ) (i e s : ℕ) : Type 0 where
 
 -- The buffer after the length of the word from i to e is stored, and s at its last place.
 abbrev pub storedAt : List ℕ → ℕ → ℕ → ℕ → List ℕ
-storedAt buf i e s = pickList (ltb 1 (e - i)) (set (set buf i (e - i)) (e - 1) s) (set buf i (e - i))
+storedAt buf i e s = cond (ltb 1 (e - i)) (set (set buf i (e - i)) (e - 1) s) (set buf i (e - i))

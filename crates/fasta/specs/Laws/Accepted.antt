@@ -11,8 +11,8 @@ use lib.ListN.{length, take, drop, length-map}
 use lib.Seq.{take-at, take-length}
 use Rattle.answer.specs.declared.Reason.the-variants.{ShortOutput, NoLetters, FileTooLong}
 use Rattle.answer.specs.declared.Outcome.the-variants.{Accepted}
-use Rattle.answer.specs.Answers.{acceptedWith, refusedFor}
-use Rattle.answer.specs.Checks.{pickAnswer, written}
+use Rattle.answer.specs.Answers.{acceptedWith}
+use Rattle.answer.specs.Checks.{refusedIf, written}
 use Rattle.answer.specs.Limits.{maxLetters, maxInput}
 use Rattle.fasta.specs.declared.lines.Ending.{Ending}
 use Rattle.fasta.specs.declared.lines.Ending.the-variants.{RefusedAt, NextRecord, Finished}
@@ -42,7 +42,7 @@ finished-accepted (RefusedAt r p) count h = let z : _≡_ {A = ℕ} 0 1 = cc in 
 finished-accepted (NextRecord n p) count h = let z : _≡_ {A = ℕ} 0 1 = cc in absurd (omega arith)
 finished-accepted (Finished n p) count h = go (eqb n 0) refl h
   where
-    go : (t : Bool) → eqb n 0 ≡ t → pickAnswer t (refusedFor NoLetters p) (acceptedWith n) .outcome ≡ Accepted count
+    go : (t : Bool) → eqb n 0 ≡ t → refusedIf t NoLetters p (acceptedWith n) .outcome ≡ Accepted count
         → (q : ℕ) × (Finished n p ≡ Finished count q) × (0 < count)
     go true l e = let z : _≡_ {A = ℕ} 0 1 = cc in absurd (omega arith)
     go false l e =
@@ -82,7 +82,7 @@ pub reader-accepted : (x : List ℕ) (places count : ℕ) → readerAnswer x pla
 reader-accepted x places count h = go (ltb places maxLetters) (ltb maxInput (length x)) h
   where
     go : (s t : Bool)
-        → pickAnswer s (refusedFor ShortOutput 0) (pickAnswer t (refusedFor FileTooLong maxInput) (answerFor (recordEnding x 0))) .outcome
+        → refusedIf s ShortOutput 0 (refusedIf t FileTooLong maxInput (answerFor (recordEnding x 0))) .outcome
         ≡ Accepted count
         → AcceptedInput x count
     go true t e = let z : _≡_ {A = ℕ} 0 1 = cc in absurd (omega arith)

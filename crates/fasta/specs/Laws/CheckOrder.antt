@@ -10,8 +10,8 @@ use lib.Dec.{ltb, eqb}
 use lib.ListN.{length}
 use Rattle.answer.specs.declared.Reason.{Reason}
 use Rattle.answer.specs.declared.Reason.the-variants.{ShortOutput, NoLetters, FileTooLong}
-use Rattle.answer.specs.Answers.{acceptedWith, refusedFor}
-use Rattle.answer.specs.Checks.{pickAnswer}
+use Rattle.answer.specs.Answers.{acceptedWith}
+use Rattle.answer.specs.Checks.{refusedIf}
 use Rattle.answer.specs.Limits.{maxLetters, maxInput}
 use Rattle.fasta.specs.declared.lines.Ending.{Ending}
 use Rattle.fasta.specs.declared.lines.Ending.the-variants.{RefusedAt, NextRecord, Finished}
@@ -71,7 +71,7 @@ module _ (x : List ℕ) (places : ℕ) where
     answer-says (NextRecord c p) f = record-first f
     answer-says (Finished c p) w = go (eqb c 0) refl
       where
-        go : (t : Bool) → eqb c 0 ≡ t → HasAnswer x places (pickAnswer t (refusedFor NoLetters p) (acceptedWith c))
+        go : (t : Bool) → eqb c 0 ≡ t → HasAnswer x places (refusedIf t NoLetters p (acceptedWith c))
         go true h =
             let e : p ≡ length x = w .place in
             rw e (record-first (none-first w (eqb-true c 0 h)))
@@ -83,7 +83,7 @@ module _ (x : List ℕ) (places : ℕ) where
     where
       go : (s t : Bool) → ltb places maxLetters ≡ s → ltb maxInput (length x) ≡ t
           → HasAnswer x places
-          (pickAnswer s (refusedFor ShortOutput 0) (pickAnswer t (refusedFor FileTooLong maxInput) (answerFor (recordEnding x 0))))
+          (refusedIf s ShortOutput 0 (refusedIf t FileTooLong maxInput (answerFor (recordEnding x 0))))
       go true t h i = short-first (ltb-true places maxLetters h)
       go false true h i = long-first (ltb-false places maxLetters h) (ltb-true maxInput (length x) i)
       go false false h i =

@@ -1,31 +1,68 @@
--- `array::numbers::lyndon_array` meets its contract: the checks give the answer, and the array is written where they accept.
+-- `array::numbers::lyndon_array` meets its contract: the checks give the answer, and the array is written where they pass.
 -- Assumes nothing.
-use Rattle.answer.specs.Checks.{content-told, content-written}
-use Rattle.array.proofs.AnswerLaws.{array-fits}
+use native.Mathlib.Omega.{arith}
+use Rattle.answer.specs.Checks.{content-refused, content-accepted}
+use Rattle.array.specs.Core.Fill.{TextFits}
+use Rattle.array.proofs.AnswerLaws.{array-refused, array-accepted, array-fits}
 use borrow.Author.Needs.{needs}
 use Rattle.array.proofs.numbers.lyndon_array.Statement.{statement}
 use Rattle.array.proofs.numbers.lyndon_array.Tie as tie
 
-array-answer-requires : tie.Need-array-answer-requires
-array-answer-requires c κs = search needs
+length-requires : tie.Need-length-requires
+length-requires c κs = search needs
+
+order-requires : tie.Need-order-requires
+order-requires c κs = search needs
+
+output-requires : tie.Need-output-requires
+output-requires c κs = search needs
+
+enum-known-c : tie.Need-enum-known-c
+enum-known-c c = search needs
+
+refused-requires : tie.Need-refused-requires
+refused-requires c κs = search needs
+
+returns : tie.Need-returns
+returns c = (search array-refused, search content-refused)
 
 enum-told : tie.Need-enum-told
 enum-told c = search needs
 
-compute-requires : tie.Need-compute-requires
-compute-requires c κs = search array-fits
+abbrev start : tie.After-enum-told → tie.Start
+start c = c .before .before .before .before .before .before .before
 
-enum-told-2 : tie.Need-enum-told-2
-enum-told-2 c = search needs
+fits : (c : tie.After-enum-told) → TextFits (start c .args .text .now) (start c .args .out .now)
+fits c = search array-fits
+
+compute-requires : tie.Need-compute-requires
+compute-requires c κs = fits (c .before)
+
+cast-accepted : tie.Need-cast-accepted
+cast-accepted c = omega (arith, fits (c .before .before .before .before) .small)
+
+accepted-requires : tie.Need-accepted-requires
+accepted-requires c κs = search needs
 
 same-length : tie.Need-same-length
 same-length c = search needs
 
-returns : tie.Need-returns
-returns c = (search needs, search content-written)
-
 returns-2 : tie.Need-returns-2
-returns-2 c = (search needs, search content-told)
+returns-2 c = (search array-accepted, search content-accepted)
 
 pub lyndon-array-spec : {M : Type 1} → statement M
-lyndon-array-spec = tie.close (tie.spec array-answer-requires enum-told compute-requires enum-told-2 same-length returns returns-2)
+lyndon-array-spec =
+    tie.close
+    (tie.spec
+    length-requires
+    order-requires
+    output-requires
+    enum-known-c
+    refused-requires
+    enum-told
+    compute-requires
+    cast-accepted
+    accepted-requires
+    returns
+    same-length
+    returns-2)

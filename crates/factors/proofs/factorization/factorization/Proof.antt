@@ -1,76 +1,80 @@
--- `factors::factorization::factorization` meets its contract: each return is a row of the table of checks.
+-- `factors::factorization::factorization` meets its contract: the checks give the answer, and the work is done where they pass.
 -- Assumes nothing.
 use mathlib.Core.Path.{sym, ap, _∙_}
-use native.Mathlib.Omega.{arith}
+use lib.ListN.{length}
 use borrow.Author.Needs.{needs}
 use Rattle.answer.specs.Answers.{acceptedWith}
+use Rattle.answer.specs.Limits.{maxLength}
 use Rattle.answer.specs.Checks.{content-refused, content-accepted}
-use Rattle.answer.specs.CheckLaws.{length-empty, length-over, length-passes, output-short, output-passes}
+use Rattle.answer.specs.CheckLaws.{then, passing, failing, length-passed, output-passed}
+use Rattle.factors.specs.TextRoom.{TextRoom}
 use Rattle.factors.proofs.factorization.factorization.Statement.{statement}
 use Rattle.factors.proofs.factorization.factorization.Tie as tie
+
+abbrev start : tie.After-enum-told → tie.Start
+start c = c .before .before .before .before .before .before
+
+-- What is known where the checks pass.
+room : (c : tie.After-enum-told) → TextRoom (start c .args .text .now) (start c .args .out .now)
+room c =
+    let last = c .before .before in
+    let n = length (start c .args .text .now) in
+    let given = output-passed n (length (start c .args .out .now)) (last .output .ensures) (c .enum-told .given .1) in
+    let sized = length-passed maxLength n (last .before .length .ensures) (given .before) in
+    record { short = sized .holds .1; places = given .holds }
+
+length-requires : tie.Need-length-requires
+length-requires c κs = search needs
+
+output-requires : tie.Need-output-requires
+output-requires c κs = search needs
+
+enum-known-c : tie.Need-enum-known-c
+enum-known-c c = search needs
 
 refused-requires : tie.Need-refused-requires
 refused-requires c κs = search needs
 
-returns : tie.Need-returns
-returns c = (
-  c .refused .ensures ∙ sym (length-empty _ _ (c .before .if1 .taken)),
-  content-refused _ _ _ (c .refused .ensures) _ _,
-)
-
-max-length-requires : tie.Need-max-length-requires
-max-length-requires c κs = search needs
-
-refused-requires-2 : tie.Need-refused-requires-2
-refused-requires-2 c κs = search needs
-
-returns-2 : tie.Need-returns-2
-returns-2 c = (
-  c .refused2 .ensures ∙ sym (length-over _ _ (c .before .before .before .if1 .left) (omega (arith, c .before .before .max-length .ensures))),
-  content-refused _ _ _ (c .refused2 .ensures) _ _,
-)
-
-refused-requires-3 : tie.Need-refused-requires-3
-refused-requires-3 c κs = search needs
-
-returns-3 : tie.Need-returns-3
-returns-3 c =
-    let checked = c .before .before .before in (
-      c .refused3 .ensures ∙ sym (output-short _ _ _ (c .before .if3 .taken)) ∙
-          sym (length-passes _ _ (checked .before .if1 .left) (omega (arith, checked .max-length .ensures))),
-      content-refused _ _ _ (c .refused3 .ensures) _ _,
-    )
+enum-told : tie.Need-enum-told
+enum-told c = search needs
 
 list-factors-requires : tie.Need-list-factors-requires
-list-factors-requires c κs = search needs
+list-factors-requires c κs = room (c .before)
 
 accepted-requires : tie.Need-accepted-requires
 accepted-requires c κs = search needs
 
+returns : tie.Need-returns
+returns c =
+    let last = c .before .before .before .before in (
+      c .refused .ensures ∙ sym (failing (then (last .before .length .ensures) (last .output .ensures)) _ (c .before .before .c .given .1)),
+      search content-refused,
+    )
+
 same-length : tie.Need-same-length
 same-length c = search needs
 
-returns-4 : tie.Need-returns-4
-returns-4 c =
-    let listed = c .before .before .before in
-    let checked = listed .before .before .before .before in (
-      c .accepted .ensures ∙ ap acceptedWith (listed .list-factors .ensures .counted) ∙ sym (output-passes _ _ _ (listed .before .before .if3 .left)) ∙
-          sym (length-passes _ _ (checked .before .if1 .left) (omega (arith, checked .max-length .ensures))),
-      content-accepted _ _ (c .accepted .ensures) _ _ _ (listed .list-factors .ensures .content),
+returns-2 : tie.Need-returns-2
+returns-2 c =
+    let done = c .before .before .before in
+    let told = done .before .before in
+    let last = told .before .before in
+    let checked = then (last .before .length .ensures) (last .output .ensures) in (
+      c .accepted .ensures ∙ ap acceptedWith (done .list-factors .ensures .counted) ∙ sym (passing checked _ (told .enum-told .given .1)),
+      content-accepted _ _ (c .accepted .ensures) _ _ _ (done .list-factors .ensures .content),
     )
 
 pub factorization-spec : {M : Type 1} → statement M
 factorization-spec =
     tie.close
     (tie.spec
+    length-requires
+    output-requires
+    enum-known-c
     refused-requires
-    returns
-    max-length-requires
-    refused-requires-2
-    returns-2
-    refused-requires-3
-    returns-3
+    enum-told
     list-factors-requires
     accepted-requires
+    returns
     same-length
-    returns-4)
+    returns-2)

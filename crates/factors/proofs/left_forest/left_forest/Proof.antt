@@ -1,64 +1,66 @@
--- `factors::left_forest::left_forest` meets its contract: each return is a row of the table of checks.
+-- `factors::left_forest::left_forest` meets its contract: the checks give the answer, and the forest is written where they pass.
 -- Assumes nothing.
 use mathlib.Core.Path.{sym, _∙_}
+use Prim.Native.Nat.{_<_}
 use native.Mathlib.Omega.{arith}
+use lib.ListN.{length}
 use borrow.Author.Needs.{needs}
+use Rattle.answer.specs.Limits.{maxLength}
 use Rattle.answer.specs.Checks.{content-refused, content-accepted}
-use Rattle.answer.specs.CheckLaws.{length-empty, length-over, length-passes, output-short, output-passes}
+use Rattle.answer.specs.CheckLaws.{then, passing, failing, length-passed, output-passed}
+use Rattle.factors.specs.TextRoom.{TextRoom}
 use Rattle.factors.proofs.left_forest.left_forest.Statement.{statement}
 use Rattle.factors.proofs.left_forest.left_forest.Tie as tie
+
+abbrev start : tie.After-enum-told → tie.Start
+start c = c .before .before .before .before .before .before .before .before
+
+-- What is known where the checks pass.
+room : (c : tie.After-enum-told)
+    → (0 < length (start c .args .text .now)) × TextRoom (start c .args .text .now) (start c .args .first .now)
+    × TextRoom (start c .args .text .now) (start c .args .past .now)
+room c =
+    let last = c .before .before in
+    let n = length (start c .args .text .now) in
+    let in-past = output-passed n (length (start c .args .past .now)) (last .output2 .ensures) (c .enum-told .given .1) in
+    let in-first = output-passed n (length (start c .args .first .now)) (last .before .output .ensures) (in-past .before) in
+    let sized = length-passed maxLength n (last .before .before .length .ensures) (in-first .before) in
+    (sized .holds .0, record { short = sized .holds .1; places = in-first .holds }, record { short = sized .holds .1; places = in-past .holds })
+
+length-requires : tie.Need-length-requires
+length-requires c κs = search needs
+
+output-requires : tie.Need-output-requires
+output-requires c κs = search needs
+
+output-requires-2 : tie.Need-output-requires-2
+output-requires-2 c κs = search needs
+
+enum-known-c : tie.Need-enum-known-c
+enum-known-c c = search needs
 
 refused-requires : tie.Need-refused-requires
 refused-requires c κs = search needs
 
-returns : tie.Need-returns
-returns c = (
-  c .refused .ensures ∙ sym (length-empty _ _ (c .before .if1 .taken)),
-  (content-refused _ _ _ (c .refused .ensures) _ _, content-refused _ _ _ (c .refused .ensures) _ _),
-)
-
-max-length-requires : tie.Need-max-length-requires
-max-length-requires c κs = search needs
-
-refused-requires-2 : tie.Need-refused-requires-2
-refused-requires-2 c κs = search needs
-
-returns-2 : tie.Need-returns-2
-returns-2 c = (
-  c .refused2 .ensures ∙ sym (length-over _ _ (c .before .before .before .if1 .left) (omega (arith, c .before .before .max-length .ensures))),
-  (content-refused _ _ _ (c .refused2 .ensures) _ _, content-refused _ _ _ (c .refused2 .ensures) _ _),
-)
-
-refused-requires-3 : tie.Need-refused-requires-3
-refused-requires-3 c κs = search needs
-
-returns-3 : tie.Need-returns-3
-returns-3 c =
-    let checked = c .before .before .before in (
-      c .refused3 .ensures ∙ sym (output-short _ _ _ (c .before .if3 .taken)) ∙
-          sym (length-passes _ _ (checked .before .if1 .left) (omega (arith, checked .max-length .ensures))),
-      (content-refused _ _ _ (c .refused3 .ensures) _ _, content-refused _ _ _ (c .refused3 .ensures) _ _),
-    )
-
-refused-requires-4 : tie.Need-refused-requires-4
-refused-requires-4 c κs = search needs
-
-returns-4 : tie.Need-returns-4
-returns-4 c =
-    let checked = c .before .before .before .before in (
-      c .refused4 .ensures ∙ sym (output-short _ _ _ (c .before .if4 .taken)) ∙ sym (output-passes _ _ _ (c .before .before .if3 .left)) ∙
-          sym (length-passes _ _ (checked .before .if1 .left) (omega (arith, checked .max-length .ensures))),
-      (content-refused _ _ _ (c .refused4 .ensures) _ _, content-refused _ _ _ (c .refused4 .ensures) _ _),
-    )
+enum-told : tie.Need-enum-told
+enum-told c = search needs
 
 grow-requires : tie.Need-grow-requires
-grow-requires c κs = search needs
+grow-requires c κs = let known = room (c .before .before) in (known .0, (known .1, known .2))
 
 cast-accepted : tie.Need-cast-accepted
-cast-accepted c = search needs
+cast-accepted c = omega (arith, room (c .before .before .before .before .before .before .before) .1 .short)
 
 accepted-requires : tie.Need-accepted-requires
 accepted-requires c κs = search needs
+
+returns : tie.Need-returns
+returns c =
+    let last = c .before .before .before .before in
+    let checked = then (last .before .before .length .ensures) (then (last .before .output .ensures) (last .output2 .ensures)) in (
+      c .refused .ensures ∙ sym (failing checked _ (c .before .before .c .given .1)),
+      (search content-refused, search content-refused),
+    )
 
 same-length : tie.Need-same-length
 same-length c = search needs
@@ -66,13 +68,13 @@ same-length c = search needs
 same-length-2 : tie.Need-same-length-2
 same-length-2 c = search needs
 
-returns-5 : tie.Need-returns-5
-returns-5 c =
+returns-2 : tie.Need-returns-2
+returns-2 c =
     let grown = c .before .before .before .before .before in
-    let roomy = grown .before .before .before in
-    let checked = roomy .before .before .before in (
-      c .accepted .ensures ∙ sym (output-passes _ _ _ (roomy .if4 .left)) ∙ sym (output-passes _ _ _ (roomy .before .if3 .left)) ∙
-          sym (length-passes _ _ (checked .before .if1 .left) (omega (arith, checked .max-length .ensures))),
+    let told = grown .before .before .before in
+    let last = told .before .before in
+    let checked = then (last .before .before .length .ensures) (then (last .before .output .ensures) (last .output2 .ensures)) in (
+      c .accepted .ensures ∙ sym (passing checked _ (told .enum-told .given .1)),
       (
         content-accepted _ _ (c .accepted .ensures) _ _ _ (grown .grow .ensures .in-first),
         content-accepted _ _ (c .accepted .ensures) _ _ _ (grown .grow .ensures .in-past),
@@ -83,18 +85,16 @@ pub left-forest-spec : {M : Type 1} → statement M
 left-forest-spec =
     tie.close
     (tie.spec
+    length-requires
+    output-requires
+    output-requires-2
+    enum-known-c
     refused-requires
-    returns
-    max-length-requires
-    refused-requires-2
-    returns-2
-    refused-requires-3
-    returns-3
-    refused-requires-4
-    returns-4
+    enum-told
     grow-requires
     cast-accepted
     accepted-requires
+    returns
     same-length
     same-length-2
-    returns-5)
+    returns-2)

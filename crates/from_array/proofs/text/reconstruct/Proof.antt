@@ -1,161 +1,126 @@
--- `from_array::text::reconstruct` meets its contract: each way out has the answer of the checks up to it, and only the last one writes.
+-- `from_array::text::reconstruct` meets its contract: the checks give the answer, and only the way on which all pass writes.
 -- Assumes nothing.
 use mathlib.Core.Path.{_≡_, sym, ap, _∙_}
 use mathlib.Core.List.{List}
 use Prim.Native.Nat.{ℕ, _≤_}
-use native.Mathlib.Omega.{arith}
 use lib.ListN.{length}
 use borrow.Author.Needs.{needs}
 use Rattle.words.specs.ValidArray.{letterFor, textFor}
 use Rattle.answer.specs.Answers.{acceptedWith}
 use Rattle.answer.specs.Limits.{maxLength}
-use Rattle.answer.specs.Checks.{outputChecked, content-refused, content-told, content-accepted}
-use Rattle.answer.specs.CheckLaws.{length-empty, length-over, length-passes, output-short, output-passes}
+use Rattle.answer.specs.Checks.{content-refused, content-told, content-accepted}
+use Rattle.answer.specs.CheckLaws.{then, passing, failing, length-passed, output-passed}
 use Rattle.from_array.specs.Answers.{arrayChecked, reconstructAnswer}
 use Rattle.from_array.proofs.Calls.{Accepting, accepting}
 use Rattle.answer.specs.ContentLaws.{holds-written}
 use Rattle.from_array.proofs.text.reconstruct.Statement.{statement}
 use Rattle.from_array.proofs.text.reconstruct.Tie as tie
 
-abbrev a : tie.Start → List ℕ
-a c = c .args .array .now
+-- The checks of length and buffer pass.
+abbrev start : tie.After-enum-told → tie.Start
+start c = c .before .before .before .before .before .before
 
-abbrev text : tie.Start → List ℕ
-text c = c .args .text .now
+abbrev a : tie.After-enum-told → List ℕ
+a c = start c .args .array .now
 
--- The length is checked.
-abbrev start₂ : tie.Else2 → tie.Start
-start₂ c = c .before .before .before .before .before
+abbrev text : tie.After-enum-told → List ℕ
+text c = start c .args .text .now
 
-short : (c : tie.Else2) → length (a (start₂ c)) ≤ maxLength
-short c = omega (arith, c .if2 .left, c .before .max-length .ensures)
+room : (c : tie.After-enum-told) → (length (a c) ≤ maxLength) × (length (a c) ≤ length (text c))
+room c =
+    let last = c .before .before in
+    let given = output-passed (length (a c)) (length (text c)) (last .output .ensures) (c .enum-told .given .1) in
+    (length-passed maxLength (length (a c)) (last .before .length .ensures) (given .before) .holds .1, given .holds)
 
-length-checked : (c : tie.Else2)
-    → reconstructAnswer (a (start₂ c)) (length (text (start₂ c)))
-    ≡ outputChecked (length (a (start₂ c))) (length (text (start₂ c))) (arrayChecked (a (start₂ c)))
-length-checked c =
-    length-passes (length (a (start₂ c)))
-    (outputChecked (length (a (start₂ c))) (length (text (start₂ c))) (arrayChecked (a (start₂ c))))
-    (c .before .before .if1 .left)
-    (short c)
-
--- The buffer is checked.
-abbrev start₃ : tie.Else3 → tie.Start
-start₃ c = start₂ (c .before)
-
-checked : (c : tie.Else3) → reconstructAnswer (a (start₃ c)) (length (text (start₃ c))) ≡ arrayChecked (a (start₃ c))
+checked : (c : tie.After-enum-told) → reconstructAnswer (a c) (length (text c)) ≡ arrayChecked (a c)
 checked c =
-    length-checked (c .before) ∙
-    output-passes (length (a (start₃ c))) (arrayChecked (a (start₃ c))) (length (text (start₃ c))) (c .if3 .left)
+    let last = c .before .before in
+    passing (then (last .before .length .ensures) (last .output .ensures)) _ (c .enum-told .given .1)
 
 -- The array is accepted.
-abbrev passed : tie.After-known-told → tie.Else3
+abbrev passed : tie.After-known-told2 → tie.After-enum-told
 passed c = c .before .before .before .before
 
-accepted-here : (c : tie.After-known-told) → Accepting (a (start₃ (passed c))) (c .before .outcome .given .0 .0)
+accepted-here : (c : tie.After-known-told2) → Accepting (a (passed c)) (c .before .outcome .given .0 .0)
 accepted-here c =
-    accepting (a (start₃ (passed c))) (c .before .before .before .check .result) (c .before .outcome .given .0 .0)
+    accepting (a (passed c)) (c .before .before .before .check .result) (c .before .outcome .given .0 .0)
     (c .before .before .before .check .ensures)
     (c .before .outcome .given .1)
+
+length-requires : tie.Need-length-requires
+length-requires c κs = search needs
+
+output-requires : tie.Need-output-requires
+output-requires c κs = search needs
+
+enum-known-c : tie.Need-enum-known-c
+enum-known-c c = search needs
 
 refused-requires : tie.Need-refused-requires
 refused-requires c κs = search needs
 
-returns : tie.Need-returns
-returns c =
-    let s = c .before .before .before .before in (
-      c .refused .ensures ∙
-          sym
-          (length-empty (length (a s)) (outputChecked (length (a s)) (length (text s)) (arrayChecked (a s))) (c .before .if1 .taken)),
-      content-refused _ _ _ (c .refused .ensures) (textFor (a s)) (text s),
-    )
-
-max-length-requires : tie.Need-max-length-requires
-max-length-requires c κs = search needs
-
-refused-requires-2 : tie.Need-refused-requires-2
-refused-requires-2 c κs = search needs
-
-returns-2 : tie.Need-returns-2
-returns-2 c =
-    let s = c .before .before .before .before .before .before in (
-      c .refused2 .ensures ∙
-          sym
-          (length-over (length (a s)) (outputChecked (length (a s)) (length (text s)) (arrayChecked (a s))) (c .before .before .before .if1 .left)
-          (omega (arith, c .before .if2 .taken, c .before .before .max-length .ensures))),
-      content-refused _ _ _ (c .refused2 .ensures) (textFor (a s)) (text s),
-    )
-
-refused-requires-3 : tie.Need-refused-requires-3
-refused-requires-3 c κs = search needs
-
-returns-3 : tie.Need-returns-3
-returns-3 c =
-    let e = c .before .before in
-    let s = start₂ e in (
-      c .refused3 .ensures ∙
-          sym (length-checked e ∙ output-short (length (a s)) (arrayChecked (a s)) (length (text s)) (c .before .if3 .taken)),
-      content-refused _ _ _ (c .refused3 .ensures) (textFor (a s)) (text s),
-    )
+enum-told : tie.Need-enum-told
+enum-told c = search needs
 
 check-requires : tie.Need-check-requires
-check-requires c κs = short (c .before)
+check-requires c κs = room c .0
 
 enum-known-outcome : tie.Need-enum-known-outcome
 enum-known-outcome c = search needs
 
-enum-told : tie.Need-enum-told
-enum-told c = search needs
+enum-told-2 : tie.Need-enum-told-2
+enum-told-2 c = search needs
 
-returns-4 : tie.Need-returns-4
-returns-4 c =
+returns : tie.Need-returns
+returns c =
     let k = c .before .before in
-    let s = start₃ (k .before) in
-    (k .check .ensures ∙ sym (checked (k .before)), content-told _ _ _ (c .enum-told .given .1) (textFor (a s)) (text s))
+    (k .check .ensures ∙ sym (checked (k .before)), content-told _ _ _ (c .enum-told2 .given .1) (textFor (a (k .before))) (text (k .before)))
 
 write-letters-requires : tie.Need-write-letters-requires
 write-letters-requires c κs =
-    record {
-      valid = accepted-here (c .before) .valid;
-      short = short (passed (c .before) .before);
-      fits = passed (c .before) .if3 .left;
-    }
+    let known = room (passed (c .before)) in
+    record { valid = accepted-here (c .before) .valid; short = known .0; fits = known .1 }
 
 accepted-requires : tie.Need-accepted-requires
 accepted-requires c κs = search needs
 
+returns-2 : tie.Need-returns-2
+returns-2 c =
+    let last = c .before .before .before .before in (
+      c .refused .ensures ∙ sym (failing (then (last .before .length .ensures) (last .output .ensures)) _ (c .before .before .c .given .1)),
+      search content-refused,
+    )
+
 same-length : tie.Need-same-length
 same-length c = search needs
 
-returns-5 : tie.Need-returns-5
-returns-5 c =
+returns-3 : tie.Need-returns-3
+returns-3 c =
     let wrote = c .before .before .before in
     let k = wrote .before .before in
     let e = passed k in
-    let s = start₃ e in
     let yes = accepted-here k in
-    let is : c .accepted .result ≡ acceptedWith (length (a s)) = c .accepted .ensures ∙ ap acceptedWith (yes .counted) in (
+    let is : c .accepted .result ≡ acceptedWith (length (a e)) = c .accepted .ensures ∙ ap acceptedWith (yes .counted) in (
       is ∙ sym (checked e ∙ yes .answered),
-      content-accepted _ _ is (textFor (a s)) (text s) _
-          (holds-written (letterFor (a s)) (text s) (length (a s)) (wrote .write-letters .last .1 .0) (wrote .write-letters .ensures) (e .if3 .left)),
+      content-accepted _ _ is (textFor (a e)) (text e) _
+          (holds-written (letterFor (a e)) (text e) (length (a e)) (wrote .write-letters .last .1 .0) (wrote .write-letters .ensures) (room e .1)),
     )
 
 pub reconstruct-spec : {M : Type 1} → statement M
 reconstruct-spec =
     tie.close
     (tie.spec
+    length-requires
+    output-requires
+    enum-known-c
     refused-requires
-    returns
-    max-length-requires
-    refused-requires-2
-    returns-2
-    refused-requires-3
-    returns-3
+    enum-told
     check-requires
     enum-known-outcome
-    enum-told
-    returns-4
+    enum-told-2
+    returns
     write-letters-requires
     accepted-requires
+    returns-2
     same-length
-    returns-5)
+    returns-3)

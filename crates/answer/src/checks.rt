@@ -1,0 +1,87 @@
+// The checks that calls begin with, one function each: it takes what the checks before it say, and the first that fails is kept.
+// Contracts cite `specs/Checks.antt`. Nothing is assumed.
+use super::Reason;
+use super::limits;
+ghost use Rattle.answer.specs.Limits.{runListLength, workLength};
+ghost use Rattle.answer.specs.Checks.{Adds, refusedIf, emptyChecked, limitChecked, lengthChecked, orderChecked, outputChecked, workChecked};
+
+// What the checks so far say.
+pub enum Check {
+    Passed,
+    Failed { reason: Reason, position: u32 },
+}
+
+// A check that fails or not, with its reason and position.
+pub fn refuse_if(earlier: Check, fails: bool, reason: Reason, position: u32) -> Check
+    ensures check { λ r. ⌜ Adds earlier r (refusedIf fails reason position) ⌝ }
+{
+    match earlier {
+        Check::Passed => {
+            if fails {
+                Check::Failed { reason, position }
+            } else {
+                Check::Passed
+            }
+        }
+        Check::Failed {
+            reason: _,
+            position: _,
+        } => earlier,
+    }
+}
+
+// 1: a text or array of n letters or entries is not empty.
+pub fn nonempty(earlier: Check, n: usize) -> Check
+    ensures check { λ r. ⌜ Adds earlier r (emptyChecked n) ⌝ }
+{
+    refuse_if(earlier, n == 0, Reason::EmptyText, 0)
+}
+
+// 2: it has at most `limit` of them.
+pub fn at_most(earlier: Check, limit: usize, n: usize) -> Check
+    ensures check { λ r. ⌜ Adds earlier r (limitChecked limit n) ⌝ }
+{
+    refuse_if(earlier, limit < n, Reason::TextTooLong, 0)
+}
+
+// 1 and 2.
+pub fn length(earlier: Check, limit: usize, n: usize) -> Check
+    ensures check { λ r. ⌜ Adds earlier r (lengthChecked limit n) ⌝ }
+{
+    at_most(nonempty(earlier, n), limit, n)
+}
+
+// 3: the order number is at most `last`.
+pub fn order(earlier: Check, last: u32, order: u32) -> Check
+    ensures check { λ r. ⌜ Adds earlier r (orderChecked last order) ⌝ }
+{
+    refuse_if(earlier, last < order, Reason::UnknownOrder, 0)
+}
+
+// 4: an output buffer has the places needed.
+pub fn output(earlier: Check, needed: usize, given: usize) -> Check
+    ensures check { λ r. ⌜ Adds earlier r (outputChecked needed given) ⌝ }
+{
+    refuse_if(earlier, given < needed, Reason::ShortOutput, 0)
+}
+
+// 5: the work buffer has the places needed.
+pub fn work(earlier: Check, needed: usize, given: usize) -> Check
+    ensures check { λ r. ⌜ Adds earlier r (workChecked needed given) ⌝ }
+{
+    refuse_if(earlier, given < needed, Reason::ShortWork, 0)
+}
+
+// 4, of the run list of n letters; the test is one of quotients, so that no product wraps.
+pub fn run_list(earlier: Check, n: usize, given: usize) -> Check
+    ensures check { λ r. ⌜ Adds earlier r (outputChecked (runListLength n) given) ⌝ }
+{
+    output(earlier, n, given / limits::LIST_PLACES)
+}
+
+// 5, of the work buffer of the runs of n letters; of quotients too.
+pub fn run_work(earlier: Check, n: usize, given: usize) -> Check
+    ensures check { λ r. ⌜ Adds earlier r (workChecked (workLength n) given) ⌝ }
+{
+    work(earlier, n, given / limits::WORK_PLACES)
+}
