@@ -75,7 +75,7 @@ pub fn refused(reason: Reason, position: u32) -> Answer
 }
 
 // The number that document 01 gives a reason.
-pub fn number_of(reason: Reason) -> u32
+fn number_of(reason: Reason) -> u32
     ensures number { λ r. ⌜ r ≡ numberOf reason ⌝ }
 {
     match reason {

@@ -136,7 +136,7 @@ pub fn lyndon_array(text: &[u32], order: u32, out: &mut [u32]) -> Answer
         Check::Failed { reason, position } => answer::refused(reason, position),
         Check::Passed => {
             compute(text, order, out);
-            answer::accepted(n as u32)
+            answer::accepted(text.len() as u32)
         }
     }
 }

@@ -116,9 +116,9 @@ fn list_repeats(
     let answer = fasta::read(input, letters);
     let outcome = answer.outcome;
     let Outcome::Accepted { count } = outcome else {
-        let reason = number(answer);
+        let refusal = number(answer);
         let position = value(answer);
-        return write_refusal(reason, position, out);
+        return write_refusal(refusal, position, out);
     };
     let n = count as usize;
     let found = &letters[..n];
