@@ -22,7 +22,7 @@ enum Reading {
 
 // Reads standard input until it ends or `input` is full.
 fn read_input(input: &mut [u8]) -> Reading
-    ensures { λ r. ⌜ Within r (length (now (input .exit))) ⌝ }
+    ensures count { λ r. ⌜ Within r (length (now (input .exit))) ⌝ }
 {
     let mut done = 0;
     while done < input.len() {
