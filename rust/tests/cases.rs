@@ -16,7 +16,7 @@ fn numbers(case: &Json, name: &str) -> Option<Vec<u32>> {
     case.get(name).map(Json::numbers)
 }
 
-/// Runs every case of the calls named, each with its buffers of the lengths lent, and returns how many there were.
+/// Runs every case of the calls named, each with buffers of the lengths given, and returns how many there were.
 fn run_cases(calls: &[&str], run: impl Fn(&str, &str, &Json, &Json)) -> usize {
     let mut count = 0;
     for line in include_str!("data/public_base.jsonl").lines() {

@@ -583,24 +583,24 @@ fn forms_that_allocate() {
         let x = numbers.text(b"abc", n);
         let (mut out, mut other, mut work, mut list) = (room(n), room(n), room(2 * n), room(6 * n));
         for order in [Order::Rising, Order::Falling] {
-            let lent = lyndon::lyndon_array_into(&x, order, &mut out).map(|count| out[..count].to_vec());
-            assert_eq!(lyndon::lyndon_array(&x, order), lent);
+            let written = lyndon::lyndon_array_into(&x, order, &mut out).map(|count| out[..count].to_vec());
+            assert_eq!(lyndon::lyndon_array(&x, order), written);
             let letters: Vec<u32> = x.iter().map(|&l| u32::from(l)).collect();
-            assert_eq!(lyndon::lyndon_array_u32(&letters, order), lent);
+            assert_eq!(lyndon::lyndon_array_u32(&letters, order), written);
         }
         assert_eq!(lyndon::factorization(&x), lyndon::factorization_into(&x, &mut out).map(|count| out[..count].to_vec()));
         assert_eq!(lyndon::suffix_table(&x), lyndon::suffix_table_into(&x, &mut out).map(|count| out[..count].to_vec()));
-        let lent = lyndon::left_forest_into(&x, &mut out, &mut other).map(|_| (out.clone(), other.clone()));
-        assert_eq!(lyndon::left_forest(&x).map(|f| (f.first, f.past)), lent);
-        let lent = lyndon::runs_into(&x, &mut work, &mut list).map(|count| lyndon::listed(&list[..3 * count]).collect::<Vec<_>>());
-        assert_eq!(lyndon::runs(&x), lent);
+        let written = lyndon::left_forest_into(&x, &mut out, &mut other).map(|_| (out.clone(), other.clone()));
+        assert_eq!(lyndon::left_forest(&x).map(|f| (f.first, f.past)), written);
+        let written = lyndon::runs_into(&x, &mut work, &mut list).map(|count| lyndon::listed(&list[..3 * count]).collect::<Vec<_>>());
+        assert_eq!(lyndon::runs(&x), written);
         let a = if n == 0 { vec![] } else { damaged(&mut numbers, n, 1) };
         assert_eq!(lyndon::reconstruct(&a), lyndon::reconstruct_into(&a, &mut out).map(|count| out[..count].to_vec()));
-        let lent = lyndon::right_forest_into(&a, &mut out, &mut other).map(|_| (out.clone(), other.clone()));
-        assert_eq!(lyndon::right_forest(&a).map(|f| (f.first, f.past)), lent);
+        let written = lyndon::right_forest_into(&a, &mut out, &mut other).map(|_| (out.clone(), other.clone()));
+        assert_eq!(lyndon::right_forest(&a).map(|f| (f.first, f.past)), written);
         let input = valid_input(&mut numbers);
         let mut letters = vec![0; 2048];
-        let lent = lyndon::read_fasta_into(&input, &mut letters).map(|count| letters[..count].to_vec());
-        assert_eq!(lyndon::read_fasta(&input), lent);
+        let written = lyndon::read_fasta_into(&input, &mut letters).map(|count| letters[..count].to_vec());
+        assert_eq!(lyndon::read_fasta(&input), written);
     }
 }

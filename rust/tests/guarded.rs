@@ -232,10 +232,10 @@ fn reader() {
             input = [b">m\n".as_slice(), &numbers.text(b"ACGT", letters)].concat();
         }
         for side in [Side::End, Side::Start] {
-            let mut lent = Guarded::new(&input, side);
+            let mut given = Guarded::new(&input, side);
             for places in [2048, 2047, 0] {
                 let mut letters = Guarded::new(&vec![0u8; places], side);
-                let got = common::read_fasta(lent.slice(), letters.slice());
+                let got = common::read_fasta(given.slice(), letters.slice());
                 common::compare_all("guarded reader", got, &[letters.slice()], &definitions::read_fasta(&input, places));
             }
         }

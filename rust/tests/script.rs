@@ -130,7 +130,7 @@ fn arguments() {
     }
     assert_failed(script().arg("no-such-file.fa").output().unwrap(), "no-such-file.fa");
     assert_failed(script().arg(root()).output().unwrap(), "directory");
-    assert_failed(script().arg("").output().unwrap(), "no such file");
+    assert_failed(script().arg("").output().unwrap(), "cannot be found");
 }
 
 /// A pipe that has no more data for now, and does not wait, has not ended.

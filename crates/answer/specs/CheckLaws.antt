@@ -7,6 +7,7 @@ use native.Mathlib.Omega.{arith}
 use borrow.Author.Tests.{lt-ltb, le-ltb, eq-eqb, ne-eqb, ltb-false, eqb-false}
 use lib.Dec.{ltb, eqb}
 use Rattle.answer.specs.declared.Answer.{Answer}
+use Rattle.answer.specs.declared.Outcome.{Outcome}
 use Rattle.answer.specs.declared.Outcome.the-variants.{Accepted, Refused}
 use Rattle.answer.specs.declared.Reason.{Reason}
 use Rattle.answer.specs.declared.Reason.the-variants.{EmptyText, TextTooLong, UnknownOrder, ShortOutput, ShortWork}
@@ -113,3 +114,18 @@ module _ (rest : Answer) where
 
   pub work-short : (needed given : ℕ) → given < needed → workChecked needed given rest ≡ refusedFor ShortWork 0
   work-short needed given h = simp (lt-ltb given needed h)
+
+-- What an answer says of the checks before it.
+abbrev saidBy : Outcome → Check
+saidBy (Accepted count) = Passed
+saidBy (Refused reason position) = Failed reason position
+
+-- A check that says what it adds says one thing only: `Adds` settles the result of a check.
+pub adds-settles : {earlier now now′ : Check} {check : Answer → Answer} → Adds earlier now check → Adds earlier now′ check → now ≡ now′
+adds-settles {now = now} {now′ = now′} a b = told now now′ (a .answer (acceptedWith 0) ∙ sym (b .answer (acceptedWith 0)))
+  where
+    told : (c d : Check) → answerTo c (acceptedWith 0) ≡ answerTo d (acceptedWith 0) → c ≡ d
+    told Passed Passed e = refl
+    told Passed (Failed r p) e = ap (λ (x : Answer). saidBy (x .outcome)) e
+    told (Failed r p) Passed e = ap (λ (x : Answer). saidBy (x .outcome)) e
+    told (Failed r p) (Failed r′ p′) e = ap (λ (x : Answer). saidBy (x .outcome)) e

@@ -48,7 +48,7 @@ abbrev pub answerTo : Check → Answer → Answer
 answerTo Passed rest = rest
 answerTo (Failed reason position) rest = refusedFor reason position
 
--- A check more: where those before it pass, the answer is this check's.
+-- A check more: where those before it pass, the answer is this check's, else the answer before.
 pub record Adds (earlier now : Check) (check : Answer → Answer) : Type 0 where
   pub answer : (rest : Answer) → answerTo now rest ≡ answerTo earlier (check rest)
 

@@ -20,6 +20,6 @@ maxRefusal = 13 + 2 * maxDigits
 abbrev pub maxRuns : ℕ
 maxRuns = runListLength maxLetters / 3
 
--- All that is printed for an input.
+-- The most that is printed for an input.
 abbrev pub maxListing : ℕ
 maxListing = maxLine * maxRuns
