@@ -3,7 +3,7 @@
 CFLAGS = -O3 -Wall -Wextra -Iinclude -Ibench
 BENCH = bench/bench.c bench/families.c bench/reference.c bench/reference_factors.c bench/reference_from_array.c bench/reference_reader.c \
 	bench/suffix_array.c
-DIVSUFSORT := $(shell echo '\#include <divsufsort.h>' | $(CC) -E - > /dev/null 2>&1 && echo -DHAVE_DIVSUFSORT -ldivsufsort)
+DIVSUFSORT := $(shell $(CC) -E -include divsufsort.h -x c /dev/null > /dev/null 2>&1 && echo -DHAVE_DIVSUFSORT -ldivsufsort)
 
 .PHONY: lib example bench test clean
 
