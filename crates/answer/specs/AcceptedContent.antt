@@ -1,25 +1,19 @@
--- What an accepted call leaves in a buffer: the first places hold what it wrote, the others what they held before.
+-- Texts that no call refuses for their length, and what an accepted call leaves in a buffer.
 -- Assumes nothing.
 use mathlib.Core.Path.{_≡_, ap, _∙_}
 use mathlib.Core.List.{List}
 use Prim.Native.Nat.{ℕ, _≤_}
-use native.Mathlib.Omega.{arith}
 use lib.ListN.{length, take, drop}
 use lib.Seq.{take-at, drop-at}
 use Rattle.answer.specs.declared.Answer.{Answer}
 use Rattle.answer.specs.Answers.{acceptedWith}
 use Rattle.answer.specs.Limits.{maxLength}
-use Rattle.answer.specs.Checks.{lengthChecked, contentAfter}
-use Rattle.answer.specs.CheckLaws.{length-passes}
+use Rattle.answer.specs.Checks.{contentAfter}
 
 -- A text, or an array, of 1 to 1,048,576 letters, or entries.
 pub record Sized (n : ℕ) : Type 0 where
   pub some : 1 ≤ n
   pub short : n ≤ maxLength
-
--- Refusals 1 and 2 are not given for it.
-pub sized-passes : (n : ℕ) → Sized n → (rest : Answer) → lengthChecked maxLength n rest ≡ rest
-sized-passes n sized rest = length-passes rest maxLength n (λ e. omega (arith, sized .some)) (sized .short)
 
 module _ (r : Answer) (count n : ℕ) (l before : List ℕ) (accepted : r ≡ acceptedWith count) (size : length l ≡ n) where
   -- The first n places, for what has n numbers.

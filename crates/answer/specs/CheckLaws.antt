@@ -14,7 +14,9 @@ use Rattle.answer.specs.declared.Reason.the-variants.{EmptyText, TextToo
 use Rattle.answer.specs.declared.checks.Check.{Check}
 use Rattle.answer.specs.declared.checks.Check.the-variants.{Passed, Failed}
 use Rattle.answer.specs.Answers.{acceptedWith, refusedFor}
-use Rattle.answer.specs.Checks.{refusedIf, limitChecked, lengthChecked, orderChecked, outputChecked, workChecked, answerTo, Adds}
+use Rattle.answer.specs.AcceptedContent.{Sized}
+use Rattle.answer.specs.Limits.{maxLength, runListLength, workLength}
+use Rattle.answer.specs.Checks.{refusedIf, limitChecked, lengthChecked, orderChecked, outputChecked, workChecked, textChecked, orderedTextChecked, forestChecked, runsChecked, answerTo, Adds}
 
 -- A check, and then another.
 pub then : {earlier mid now : Check} {check further : Answer → Answer} → Adds earlier mid check → Adds mid now further →
@@ -30,59 +32,69 @@ module _ {now : Check} {check : Answer → Answer} (all : Adds Passed now check)
   pub failing : {reason : Reason} {position : ℕ} → now ≡ Failed reason position → check rest ≡ refusedFor reason position
   failing e = sym (all .answer rest) ∙ ap (λ (c : Check). answerTo c rest) e
 
--- Where a check passes, those before it have passed, and its condition holds.
-pub record Clear (earlier : Check) (condition : Type 0) : Type 0 where
-  pub before : earlier ≡ Passed
-  pub holds : condition
-
 refused-apart : (reason : Reason) (position : ℕ) → ¬ (refusedFor reason position ≡ acceptedWith 0)
 refused-apart reason position e =
     let o : Refused reason position ≡ Accepted 0 = ap (λ (a : Answer). a .outcome) e in
     let z : _≡_ {A = ℕ} 0 1 = cc in
     omega arith
 
--- One test, and what follows it.
-test-passed : (fails : Bool) (reason : Reason) (position : ℕ) (rest : Answer) → refusedIf fails reason position rest ≡ acceptedWith 0 →
-    (fails ≡ false) × (rest ≡ acceptedWith 0)
-test-passed true reason position rest e = absurd (refused-apart reason position e)
-test-passed false reason position rest e = (refl, e)
+-- What is known where a check and what follows it accept: its condition, and that what follows does.
+module _ (rest : Answer) where
+  pub if-cleared : (fails : Bool) (reason : Reason) (position : ℕ) → refusedIf fails reason position rest ≡ acceptedWith 0 →
+      (fails ≡ false) × (rest ≡ acceptedWith 0)
+  if-cleared true reason position e = absurd (refused-apart reason position e)
+  if-cleared false reason position e = (refl, e)
 
-earlier-passed : (earlier now : Check) (check : Answer → Answer) → Adds earlier now check → now ≡ Passed →
-    Clear earlier (check (acceptedWith 0) ≡ acceptedWith 0)
-earlier-passed earlier now check a e = go earlier (sym (a .answer (acceptedWith 0)) ∙ ap (λ (c : Check). answerTo c (acceptedWith 0)) e)
-  where
-    go : (c : Check) → answerTo c (check (acceptedWith 0)) ≡ acceptedWith 0 → Clear c (check (acceptedWith 0) ≡ acceptedWith 0)
-    go Passed z = record { before = refl; holds = z }
-    go (Failed reason position) z = absurd (refused-apart reason position z)
+  pub order-cleared : (last order : ℕ) → orderChecked last order rest ≡ acceptedWith 0 → (order ≤ last) × (rest ≡ acceptedWith 0)
+  order-cleared last order e = let p = if-cleared (ltb last order) UnknownOrder 0 e in (ltb-false last order (p .0), p .1)
 
-module _ {earlier now : Check} where
-  pub if-passed : (fails : Bool) (reason : Reason) (position : ℕ) → Adds earlier now (refusedIf fails reason position) → now ≡ Passed →
-      Clear earlier (fails ≡ false)
-  if-passed fails reason position a e =
-      let p = earlier-passed earlier now (refusedIf fails reason position) a e in
-      record { before = p .before; holds = test-passed fails reason position (acceptedWith 0) (p .holds) .0 }
+  pub output-cleared : (needed given : ℕ) → outputChecked needed given rest ≡ acceptedWith 0 → (needed ≤ given) × (rest ≡ acceptedWith 0)
+  output-cleared needed given e = let p = if-cleared (ltb given needed) ShortOutput 0 e in (ltb-false given needed (p .0), p .1)
 
-  pub length-passed : (limit n : ℕ) → Adds earlier now (lengthChecked limit n) → now ≡ Passed → Clear earlier ((0 < n) × (n ≤ limit))
-  length-passed limit n a e =
-      let p = earlier-passed earlier now (lengthChecked limit n) a e in
-      let some = test-passed (eqb n 0) EmptyText 0 (limitChecked limit n (acceptedWith 0)) (p .holds) in
-      let short = test-passed (ltb limit n) TextTooLong 0 (acceptedWith 0) (some .1) in
-      record { before = p .before; holds = (omega (arith, eqb-false n 0 (some .0)), ltb-false limit n (short .0)) }
+  pub work-cleared : (needed given : ℕ) → workChecked needed given rest ≡ acceptedWith 0 → (needed ≤ given) × (rest ≡ acceptedWith 0)
+  work-cleared needed given e = let p = if-cleared (ltb given needed) ShortWork 0 e in (ltb-false given needed (p .0), p .1)
 
-  pub order-passed : (last order : ℕ) → Adds earlier now (orderChecked last order) → now ≡ Passed → Clear earlier (order ≤ last)
-  order-passed last order a e =
-      let p = if-passed (ltb last order) UnknownOrder 0 a e in
-      record { before = p .before; holds = ltb-false last order (p .holds) }
+pub length-cleared : (rest : Answer) (limit n : ℕ) → lengthChecked limit n rest ≡ acceptedWith 0 →
+    (0 < n) × (n ≤ limit) × (rest ≡ acceptedWith 0)
+length-cleared rest limit n e =
+    let some = if-cleared (limitChecked limit n rest) (eqb n 0) EmptyText 0 e in
+    let short = if-cleared rest (ltb limit n) TextTooLong 0 (some .1) in
+    (omega (arith, eqb-false n 0 (some .0)), ltb-false limit n (short .0), short .1)
 
-  pub output-passed : (needed given : ℕ) → Adds earlier now (outputChecked needed given) → now ≡ Passed → Clear earlier (needed ≤ given)
-  output-passed needed given a e =
-      let p = if-passed (ltb given needed) ShortOutput 0 a e in
-      record { before = p .before; holds = ltb-false given needed (p .holds) }
+-- What is known where a call's checks pass.
+module _ {now : Check} where
+  pub text-passed : (n given : ℕ) → Adds Passed now (textChecked n given) → now ≡ Passed → (0 < n) × (n ≤ maxLength) × (n ≤ given)
+  text-passed n given all e =
+      let sized = length-cleared (outputChecked n given (acceptedWith 0)) maxLength n (passing all (acceptedWith 0) e) in
+      let room = output-cleared (acceptedWith 0) n given (sized .2) in
+      (sized .0, sized .1, room .0)
 
-  pub work-passed : (needed given : ℕ) → Adds earlier now (workChecked needed given) → now ≡ Passed → Clear earlier (needed ≤ given)
-  work-passed needed given a e =
-      let p = if-passed (ltb given needed) ShortWork 0 a e in
-      record { before = p .before; holds = ltb-false given needed (p .holds) }
+  pub ordered-text-passed : (n order given : ℕ) → Adds Passed now (orderedTextChecked n order given) → now ≡ Passed →
+      (0 < n) × (n ≤ maxLength) × (order ≤ 1) × (n ≤ given)
+  ordered-text-passed n order given all e =
+      let rest = outputChecked n given (acceptedWith 0) in
+      let sized = length-cleared (orderChecked 1 order rest) maxLength n (passing all (acceptedWith 0) e) in
+      let named = order-cleared rest 1 order (sized .2) in
+      let room = output-cleared (acceptedWith 0) n given (named .1) in
+      (sized .0, sized .1, named .0, room .0)
+
+  pub forest-passed : (n first past : ℕ) → Adds Passed now (forestChecked n first past) → now ≡ Passed →
+      (0 < n) × (n ≤ maxLength) × (n ≤ first) × (n ≤ past)
+  forest-passed n first past all e =
+      let rest = outputChecked n past (acceptedWith 0) in
+      let sized = length-cleared (outputChecked n first rest) maxLength n (passing all (acceptedWith 0) e) in
+      let in-first = output-cleared rest n first (sized .2) in
+      let in-past = output-cleared (acceptedWith 0) n past (in-first .1) in
+      (sized .0, sized .1, in-first .0, in-past .0)
+
+  pub runs-passed : (n list work : ℕ) → Adds Passed now (runsChecked n list work) → now ≡ Passed →
+      (0 < n) × (n ≤ maxLength) × (runListLength n ≤ list) × (workLength n ≤ work)
+  runs-passed n list work all e =
+      let rest = workChecked (workLength n) work (acceptedWith 0) in
+      let sized = length-cleared (outputChecked (runListLength n) list rest) maxLength n (passing all (acceptedWith 0) e) in
+      let in-list = output-cleared rest (runListLength n) list (sized .2) in
+      let in-work = work-cleared (acceptedWith 0) (workLength n) work (in-list .1) in
+      (sized .0, sized .1, in-list .0, in-work .0)
 
 -- The checks, where their conditions hold.
 module _ (rest : Answer) where
@@ -97,6 +109,25 @@ module _ (rest : Answer) where
 
   pub work-passes : (needed given : ℕ) → needed ≤ given → workChecked needed given rest ≡ rest
   work-passes needed given h = simp (le-ltb given needed h)
+
+-- A call's checks pass where each buffer has the places needed.
+module _ (n : ℕ) (sized : Sized n) (rest : Answer) where
+  pub text-passes : (given : ℕ) → n ≤ given → textChecked n given rest ≡ rest
+  text-passes given room = length-passes _ maxLength n (λ e. omega (arith, sized .some)) (sized .short) ∙ output-passes rest n given room
+
+  pub ordered-text-passes : (order given : ℕ) → order ≤ 1 → n ≤ given → orderedTextChecked n order given rest ≡ rest
+  ordered-text-passes order given named room =
+      length-passes _ maxLength n (λ e. omega (arith, sized .some)) (sized .short) ∙ order-passes _ 1 order named ∙ output-passes rest n given room
+
+  pub forest-passes : (first past : ℕ) → n ≤ first → n ≤ past → forestChecked n first past rest ≡ rest
+  forest-passes first past first-room past-room =
+      length-passes _ maxLength n (λ e. omega (arith, sized .some)) (sized .short) ∙ output-passes _ n first first-room ∙
+      output-passes rest n past past-room
+
+  pub runs-passes : (list work : ℕ) → runListLength n ≤ list → workLength n ≤ work → runsChecked n list work rest ≡ rest
+  runs-passes list work list-room work-room =
+      length-passes _ maxLength n (λ e. omega (arith, sized .some)) (sized .short) ∙ output-passes _ (runListLength n) list list-room ∙
+      work-passes rest (workLength n) work work-room
 
 -- The checks, where they refuse: together with the laws above, each is given whenever its condition holds, and never otherwise.
 module _ (rest : Answer) where

@@ -1,6 +1,6 @@
 -- The checks of document 01's table ("Where each check stands"), each with what follows where it does not refuse, and what a buffer holds after a call.
 -- Assumes nothing.
-use mathlib.Core.Path.{_≡_, sym, ap, _∙_}
+use mathlib.Core.Path.{_≡_}
 use mathlib.Core.Bool.{Bool, cond}
 use mathlib.Core.List.{List, _++_}
 use Prim.Native.Nat.{ℕ}
@@ -13,7 +13,8 @@ use Rattle.answer.specs.declared.checks.Check.{Check}
 use Rattle.answer.specs.declared.checks.Check.the-variants.{Passed, Failed}
 use Rattle.answer.specs.declared.Reason.{Reason}
 use Rattle.answer.specs.declared.Reason.the-variants.{EmptyText, TextTooLong, UnknownOrder, ShortOutput, ShortWork}
-use Rattle.answer.specs.Answers.{acceptedWith, refusedFor}
+use Rattle.answer.specs.Answers.{refusedFor}
+use Rattle.answer.specs.Limits.{maxLength, runListLength, workLength}
 
 -- Refused where a check fails, else what follows.
 abbrev pub refusedIf : Bool → Reason → ℕ → Answer → Answer
@@ -43,6 +44,22 @@ outputChecked needed given = refusedIf (ltb given needed) ShortOutput 0
 abbrev pub workChecked : ℕ → ℕ → Answer → Answer
 workChecked needed given = refusedIf (ltb given needed) ShortWork 0
 
+-- 1, 2 and 4: a call on n letters or entries that writes as many numbers.
+abbrev pub textChecked : ℕ → ℕ → Answer → Answer
+textChecked n given rest = lengthChecked maxLength n (outputChecked n given rest)
+
+-- 1, 2, 3 and 4: such a call that has an order number, 0 or 1.
+abbrev pub orderedTextChecked : ℕ → ℕ → ℕ → Answer → Answer
+orderedTextChecked n order given rest = lengthChecked maxLength n (orderChecked 1 order (outputChecked n given rest))
+
+-- 1, 2 and 4, of both buffers: a forest of n letters or entries.
+abbrev pub forestChecked : ℕ → ℕ → ℕ → Answer → Answer
+forestChecked n first past rest = textChecked n first (outputChecked n past rest)
+
+-- 1, 2, 4 and 5: the runs of n letters, with the lengths of the list and of the work buffer.
+abbrev pub runsChecked : ℕ → ℕ → ℕ → Answer → Answer
+runsChecked n list work rest = lengthChecked maxLength n (outputChecked (runListLength n) list (workChecked (workLength n) work rest))
+
 -- The answer where `rest` follows the checks so far.
 abbrev pub answerTo : Check → Answer → Answer
 answerTo Passed rest = rest
@@ -64,23 +81,3 @@ contentIn (Refused reason position) l before = before
 -- What a buffer holds after an answer.
 abbrev pub contentAfter : Answer → List ℕ → List ℕ → List ℕ
 contentAfter a l before = contentIn (a .outcome) l before
-
--- An outcome that refuses leaves a buffer as it was.
-pub content-told : (o : Outcome) (reason : Reason) (position : ℕ) → o ≡ Refused reason position → (l before : List ℕ) →
-    before ≡ contentIn o l before
-content-told o reason position e l before = sym (ap (λ (q : Outcome). contentIn q l before) e)
-
--- An outcome that accepts leaves what was written.
-pub content-written : (o : Outcome) (count : ℕ) → o ≡ Accepted count → (l before after : List ℕ) → after ≡ written l before →
-    after ≡ contentIn o l before
-content-written o count e l before after h = h ∙ sym (ap (λ (q : Outcome). contentIn q l before) e)
-
--- A refused call leaves a buffer as it was.
-pub content-refused : (a : Answer) (reason : Reason) (position : ℕ) → a ≡ refusedFor reason position → (l before : List ℕ) →
-    before ≡ contentAfter a l before
-content-refused a reason position e l before = content-told (a .outcome) reason position (ap (λ (b : Answer). b .outcome) e) l before
-
--- An accepted call leaves what it has written.
-pub content-accepted : (a : Answer) (count : ℕ) → a ≡ acceptedWith count → (l before after : List ℕ) → after ≡ written l before →
-    after ≡ contentAfter a l before
-content-accepted a count e l before after h = content-written (a .outcome) count (ap (λ (b : Answer). b .outcome) e) l before after h

@@ -5,5 +5,6 @@ pub mod Content
 pub mod Faults
 pub mod Checks
 pub mod CheckLaws
+pub mod AfterLaws
 pub mod ContentLaws
 pub mod AcceptedContent

@@ -3,7 +3,8 @@
 use super::Reason;
 use super::limits;
 ghost use Rattle.answer.specs.Limits.{runListLength, workLength};
-ghost use Rattle.answer.specs.Checks.{Adds, refusedIf, emptyChecked, limitChecked, lengthChecked, orderChecked, outputChecked, workChecked};
+ghost use Rattle.answer.specs.Checks.{Adds, refusedIf, emptyChecked, limitChecked, lengthChecked, orderChecked, outputChecked, workChecked, textChecked, orderedTextChecked, forestChecked, runsChecked};
+ghost use Rattle.answer.specs.declared.checks.Check.the-variants.{Passed};
 
 // What the checks so far say.
 pub enum Check {
@@ -84,4 +85,35 @@ pub fn run_work(earlier: Check, n: usize, given: usize) -> Check
     ensures check { λ r. ⌜ Adds earlier r (workChecked (workLength n) given) ⌝ }
 {
     work(earlier, n, given / limits::WORK_PLACES)
+}
+
+// 1, 2 and 4: a call on n letters or entries that writes as many numbers.
+pub fn text(n: usize, given: usize) -> Check
+    ensures check { λ r. ⌜ Adds Passed r (textChecked n given) ⌝ }
+{
+    output(length(Check::Passed, limits::MAX_LENGTH, n), n, given)
+}
+
+// 1, 2, 3 and 4: such a call on letters that has an order number, 0 or 1.
+pub fn ordered_text(letters: usize, number: u32, given: usize) -> Check
+    ensures check { λ r. ⌜ Adds Passed r (orderedTextChecked letters number given) ⌝ }
+{
+    let sized = length(Check::Passed, limits::MAX_LENGTH, letters);
+    let named = order(sized, 1, number);
+    output(named, letters, given)
+}
+
+// 1, 2 and 4, of both buffers: a forest of n letters or entries.
+pub fn forest(n: usize, first: usize, past: usize) -> Check
+    ensures check { λ r. ⌜ Adds Passed r (forestChecked n first past) ⌝ }
+{
+    output(text(n, first), n, past)
+}
+
+// 1, 2, 4 and 5: the runs of n letters.
+pub fn runs(n: usize, list: usize, given: usize) -> Check
+    ensures check { λ r. ⌜ Adds Passed r (runsChecked n list given) ⌝ }
+{
+    let listed = run_list(length(Check::Passed, limits::MAX_LENGTH, n), n, list);
+    run_work(listed, n, given)
 }

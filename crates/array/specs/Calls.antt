@@ -8,14 +8,13 @@ use Rattle.words.specs.Equality.{decided-number-equality}
 use Rattle.words.specs.Runs.{Entry, numbers}
 use Rattle.words.specs.Compute.LyndonArray.{arrayOf}
 use Rattle.words.specs.Compute.Runs.{runsOf}
-use Rattle.answer.specs.Limits.{maxLength, runListLength, workLength}
 use Rattle.answer.specs.declared.Answer.{Answer}
 use Rattle.answer.specs.Answers.{acceptedWith}
-use Rattle.answer.specs.Checks.{lengthChecked, orderChecked, outputChecked, workChecked}
+use Rattle.answer.specs.Checks.{orderedTextChecked, runsChecked}
 
 -- The Lyndon array of n letters into a buffer of `given` places: checks 1, 2, 3 and 4 of document 01's table; the count is n.
 abbrev pub arrayAnswer : ℕ → ℕ → ℕ → Answer
-arrayAnswer n order given = lengthChecked maxLength n (orderChecked 1 order (outputChecked n given (acceptedWith n)))
+arrayAnswer n order given = orderedTextChecked n order given (acceptedWith n)
 
 -- The runs of a text of bytes, by start and then by last position.
 abbrev pub runList : List ℕ → List Entry
@@ -31,6 +30,4 @@ bothArrays x = arrayOf decided-rising x ++ arrayOf decided-falling x
 
 -- The runs of a text, with the lengths of the work buffer and of the list: checks 1, 2, 4 and 5; the count is the number of runs.
 abbrev pub runsAnswer : List ℕ → ℕ → ℕ → Answer
-runsAnswer x work list =
-    lengthChecked maxLength (length x)
-    (outputChecked (runListLength (length x)) list (workChecked (workLength (length x)) work (acceptedWith (length (runList x)))))
+runsAnswer x work list = runsChecked (length x) list work (acceptedWith (length (runList x)))

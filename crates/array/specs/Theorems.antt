@@ -17,9 +17,9 @@ use Rattle.words.specs.Laws.RunSearch.{runsOf-holds}
 use Rattle.words.specs.Laws.Runs.{numbers-length}
 use Rattle.answer.specs.Answers.{acceptedWith}
 use Rattle.answer.specs.Limits.{runListLength, workLength}
-use Rattle.answer.specs.Checks.{contentAfter, orderChecked, outputChecked, workChecked}
-use Rattle.answer.specs.CheckLaws.{order-passes, output-passes, work-passes}
-use Rattle.answer.specs.AcceptedContent.{Sized, sized-passes, written-first, written-rest}
+use Rattle.answer.specs.Checks.{contentAfter}
+use Rattle.answer.specs.AcceptedContent.{Sized, written-first, written-rest}
+use Rattle.answer.specs.CheckLaws.{ordered-text-passes, runs-passes}
 use Rattle.array.specs.Calls.{arrayAnswer, runList, runNumbers, bothArrays, runsAnswer}
 
 -- What `lyndon_array`, of either width, leaves in its buffer, by its contract.
@@ -30,10 +30,7 @@ arrayAfter x order out = contentAfter (arrayAnswer (length x) order (length out)
 module _ (x : List ℕ) (sized : Sized (length x)) (order : ℕ) (named : order ≤ 1) (out : List ℕ) (room : length x ≤ length out) where
   -- No text is refused; the count is n.
   pub array-accepts : arrayAnswer (length x) order (length out) ≡ acceptedWith (length x)
-  array-accepts =
-      let n = length x in
-      sized-passes n sized (orderChecked 1 order (outputChecked n (length out) (acceptedWith n))) ∙
-      order-passes (outputChecked n (length out) (acceptedWith n)) 1 order named ∙ output-passes (acceptedWith n) n (length out) room
+  array-accepts = ordered-text-passes (length x) sized _ order (length out) named room
 
   is-array : IsLyndonArray (orderOf order) x (arrayOf (decided-order order) x)
   is-array = arrayOf-holds (decided-order order) x
@@ -67,12 +64,7 @@ module _
   where
     -- No text is refused; the count is the number of runs.
     pub runs-accepts : runsAnswer x (length work) (length list) ≡ acceptedWith (length (runList x))
-    runs-accepts =
-        let n = length x in
-        let yes = acceptedWith (length (runList x)) in
-        sized-passes n sized (outputChecked (runListLength n) (length list) (workChecked (workLength n) (length work) yes)) ∙
-        output-passes (workChecked (workLength n) (length work) yes) (runListLength n) (length list) list-room ∙
-        work-passes yes (workLength n) (length work) work-room
+    runs-accepts = runs-passes (length x) sized _ (length list) (length work) list-room work-room
 
     -- That list holds every run of the text once, and nothing else, by start and then by last position.
     pub runs-listed : IsRunList x (runList x)

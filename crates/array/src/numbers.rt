@@ -4,7 +4,6 @@ use crate::places;
 use answer::Answer;
 use answer::checks;
 use answer::checks::Check;
-use answer::limits;
 use letters::Comparison;
 ghost use mathlib.Core.Path.{_≡_};
 ghost use Prim.Native.Nat.{_+_, _-_, _≤_, _<_};
@@ -129,14 +128,12 @@ pub fn lyndon_array(text: &[u32], order: u32, out: &mut [u32]) -> Answer
     ensures content { λ r. ⌜ now (out .exit) ≡ contentAfter r (arrayOf (decided-order order) (now (text .entry))) (now (out .entry)) ⌝ }
 {
     let n = text.len();
-    let c = checks::length(Check::Passed, limits::MAX_LENGTH, n);
-    let c = checks::order(c, 1, order);
-    let c = checks::output(c, n, out.len());
+    let c = checks::ordered_text(n, order, out.len());
     match c {
         Check::Failed { reason, position } => answer::refused(reason, position),
         Check::Passed => {
             compute(text, order, out);
-            answer::accepted(text.len() as u32)
+            answer::accepted(n as u32)
         }
     }
 }

@@ -5,7 +5,6 @@ use crate::places;
 use answer::Answer;
 use answer::checks;
 use answer::checks::Check;
-use answer::limits;
 use letters::Comparison;
 ghost use mathlib.Core.Path.{_≡_};
 ghost use mathlib.Core.List.{[], _∷_};
@@ -170,9 +169,7 @@ pub fn runs(text: &[u8], work: &mut [u32], list: &mut [u32]) -> Answer
     ensures arrays { λ r. ⌜ now (work .exit) ≡ contentAfter r (bothArrays (now (text .entry))) (now (work .entry)) ⌝ }
 {
     let n = text.len();
-    let c = checks::length(Check::Passed, limits::MAX_LENGTH, n);
-    let c = checks::run_list(c, n, list.len());
-    let c = checks::run_work(c, n, work.len());
+    let c = checks::runs(n, list.len(), work.len());
     match c {
         Check::Failed { reason, position } => answer::refused(reason, position),
         Check::Passed => answer::accepted(find(text, work, list) as u32),

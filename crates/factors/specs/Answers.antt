@@ -6,20 +6,17 @@ use lib.ListN.{length}
 use Rattle.words.specs.Compute.Factorization.{factorizationOf}
 use Rattle.answer.specs.declared.Answer.{Answer}
 use Rattle.answer.specs.Answers.{acceptedWith}
-use Rattle.answer.specs.Limits.{maxLength}
-use Rattle.answer.specs.Checks.{lengthChecked, outputChecked}
+use Rattle.answer.specs.Checks.{textChecked, forestChecked}
 use Rattle.factors.specs.Default.{decided-default}
 
 -- The factor list of x, in a buffer of `given` places: the count is the number of factors.
 abbrev pub factorizationAnswer : List ℕ → ℕ → Answer
-factorizationAnswer x given =
-    lengthChecked maxLength (length x) (outputChecked (length x) given (acceptedWith (length (factorizationOf decided-default x))))
+factorizationAnswer x given = textChecked (length x) given (acceptedWith (length (factorizationOf decided-default x)))
 
 -- The Lyndon suffix table of x, in a buffer of `given` places: the count is the number of letters.
 abbrev pub suffixTableAnswer : List ℕ → ℕ → Answer
-suffixTableAnswer x given = lengthChecked maxLength (length x) (outputChecked (length x) given (acceptedWith (length x)))
+suffixTableAnswer x given = textChecked (length x) given (acceptedWith (length x))
 
 -- The left forest of x, in buffers of `in-first` and `in-past` places: refused where either is short; the count is the number of letters.
 abbrev pub leftForestAnswer : List ℕ → ℕ → ℕ → Answer
-leftForestAnswer x in-first in-past =
-    lengthChecked maxLength (length x) (outputChecked (length x) in-first (outputChecked (length x) in-past (acceptedWith (length x))))
+leftForestAnswer x in-first in-past = forestChecked (length x) in-first in-past (acceptedWith (length x))

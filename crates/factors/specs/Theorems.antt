@@ -14,9 +14,9 @@ use Rattle.words.specs.Compute.LeftForest.{leftFirstOf, leftPastOf}
 use Rattle.words.specs.Laws.ForestRecords.{leftForestOf-holds}
 use Rattle.answer.specs.Answers.{acceptedWith}
 use Rattle.answer.specs.Limits.{maxLength}
-use Rattle.answer.specs.Checks.{lengthChecked, outputChecked, contentAfter}
-use Rattle.answer.specs.CheckLaws.{output-passes}
-use Rattle.answer.specs.AcceptedContent.{Sized, sized-passes, written-first, written-rest}
+use Rattle.answer.specs.Checks.{contentAfter}
+use Rattle.answer.specs.AcceptedContent.{Sized, written-first, written-rest}
+use Rattle.answer.specs.CheckLaws.{text-passes, forest-passes}
 use Rattle.factors.specs.Default.{defaultOrder, decided-default}
 use Rattle.factors.specs.Answers.{factorizationAnswer, suffixTableAnswer, leftForestAnswer}
 
@@ -46,14 +46,9 @@ leftPastAfter x first past = contentAfter (leftForestAnswer x (length first) (le
 
 -- One buffer that is long enough.
 module _ (x : List ℕ) (sized : Sized (length x)) (out : List ℕ) (room : length x ≤ length out) where
-  accepts : (count : ℕ) → lengthChecked maxLength (length x) (outputChecked (length x) (length out) (acceptedWith count)) ≡ acceptedWith count
-  accepts count =
-      sized-passes (length x) sized (outputChecked (length x) (length out) (acceptedWith count)) ∙
-      output-passes (acceptedWith count) (length x) (length out) room
-
   -- `factorization` refuses no text; the count is the number of factors.
   pub factorization-accepts : factorizationAnswer x (length out) ≡ acceptedWith (length (factorizationOf decided-default x))
-  factorization-accepts = accepts (length (factorizationOf decided-default x))
+  factorization-accepts = text-passes (length x) sized _ (length out) room
 
   -- As many places as there are factors hold their starts.
   pub factorization-written : IsFactorization defaultOrder x (take (length (factorizationOf decided-default x)) (startsAfter x out))
@@ -71,7 +66,7 @@ module _ (x : List ℕ) (sized : Sized (length x)) (out : List ℕ) (room : leng
 
   -- `suffix_table` refuses no text; the count is n.
   pub suffix-table-accepts : suffixTableAnswer x (length out) ≡ acceptedWith (length x)
-  suffix-table-accepts = accepts (length x)
+  suffix-table-accepts = text-passes (length x) sized _ (length out) room
 
   -- The first n places hold the Lyndon suffix table of the text.
   pub suffix-table-written : IsSuffixTable defaultOrder x (take (length x) (tableAfter x out))
@@ -92,10 +87,7 @@ module _ (x : List ℕ) (sized : Sized (length x)) (first past : List ℕ) (firs
 
   -- It refuses no text; the count is n.
   pub left-forest-accepts : leftForestAnswer x (length first) (length past) ≡ acceptedWith (length x)
-  left-forest-accepts =
-      let n = length x in
-      sized-passes n sized (outputChecked n (length first) (outputChecked n (length past) (acceptedWith n))) ∙
-      output-passes (outputChecked n (length past) (acceptedWith n)) n (length first) first-room ∙ output-passes (acceptedWith n) n (length past) past-room
+  left-forest-accepts = forest-passes (length x) sized _ (length first) (length past) first-room past-room
 
   -- The first n places of both buffers hold the left forest of the text.
   pub left-forest-written : IsLeftForest defaultOrder x (take (length x) (leftFirstAfter x first past)) (take (length x) (leftPastAfter x first past))

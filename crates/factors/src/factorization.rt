@@ -4,7 +4,6 @@ use super::scan::stretch_at;
 use answer::Answer;
 use answer::checks;
 use answer::checks::Check;
-use answer::limits;
 ghost use mathlib.Core.Path.{_≡_};
 ghost use lib.ListN.{length};
 ghost use Rattle.words.specs.Compute.Factorization.{factorizationOf};
@@ -37,8 +36,7 @@ pub fn factorization(text: &[u8], out: &mut [u32]) -> Answer
     ensures content { λ r. ⌜ now (out .exit) ≡ contentAfter r (factorizationOf decided-default (now (text .entry))) (now (out .entry)) ⌝ }
 {
     let n = text.len();
-    let c = checks::length(Check::Passed, limits::MAX_LENGTH, n);
-    let c = checks::output(c, n, out.len());
+    let c = checks::text(n, out.len());
     match c {
         Check::Failed { reason, position } => answer::refused(reason, position),
         Check::Passed => {

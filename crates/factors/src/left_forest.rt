@@ -3,7 +3,6 @@ use super::suffix_table::fill_table;
 use answer::Answer;
 use answer::checks;
 use answer::checks::Check;
-use answer::limits;
 use letters::wide;
 ghost use mathlib.Core.Path.{_≡_};
 ghost use Prim.Native.Nat.{ℕ, _<_};
@@ -84,9 +83,7 @@ pub fn left_forest(text: &[u8], first: &mut [u32], past: &mut [u32]) -> Answer
     ensures ends { λ r. ⌜ now (past .exit) ≡ contentAfter r (leftPastOf decided-default (now (text .entry)) (factorizationOf decided-default (now (text .entry)))) (now (past .entry)) ⌝ }
 {
     let n = text.len();
-    let c = checks::length(Check::Passed, limits::MAX_LENGTH, n);
-    let c = checks::output(c, n, first.len());
-    let c = checks::output(c, n, past.len());
+    let c = checks::forest(n, first.len(), past.len());
     match c {
         Check::Failed { reason, position } => answer::refused(reason, position),
         Check::Passed => {

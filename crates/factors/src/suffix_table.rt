@@ -4,7 +4,6 @@ use super::scan::Stretch;
 use answer::Answer;
 use answer::checks;
 use answer::checks::Check;
-use answer::limits;
 use letters::Comparison;
 ghost use mathlib.Core.Path.{_≡_};
 ghost use Prim.Native.Nat.{_<_};
@@ -79,8 +78,7 @@ pub fn suffix_table(text: &[u8], out: &mut [u32]) -> Answer
     ensures content { λ r. ⌜ now (out .exit) ≡ contentAfter r (suffixTableOf decided-default (now (text .entry))) (now (out .entry)) ⌝ }
 {
     let n = text.len();
-    let c = checks::length(Check::Passed, limits::MAX_LENGTH, n);
-    let c = checks::output(c, n, out.len());
+    let c = checks::text(n, out.len());
     match c {
         Check::Failed { reason, position } => answer::refused(reason, position),
         Check::Passed => {

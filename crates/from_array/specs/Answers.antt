@@ -7,8 +7,7 @@ use Rattle.words.specs.Compute.ValidArray.{Verdict, fits, fault, checkArray}
 use Rattle.answer.specs.declared.Answer.{Answer}
 use Rattle.answer.specs.Answers.{acceptedWith, refusedFor}
 use Rattle.answer.specs.Faults.{reasonFor}
-use Rattle.answer.specs.Limits.{maxLength}
-use Rattle.answer.specs.Checks.{lengthChecked, outputChecked}
+use Rattle.answer.specs.Checks.{textChecked, forestChecked}
 
 -- Refusals 6, 7 and 8: the answer to a verdict on an array of n entries.
 abbrev pub verdictAnswer : ℕ → Verdict → Answer
@@ -21,9 +20,8 @@ arrayChecked a = verdictAnswer (length a) (checkArray a)
 
 -- The answer of `reconstruct`, for a text buffer of that length.
 abbrev pub reconstructAnswer : List ℕ → ℕ → Answer
-reconstructAnswer a text = lengthChecked maxLength (length a) (outputChecked (length a) text (arrayChecked a))
+reconstructAnswer a text = textChecked (length a) text (arrayChecked a)
 
 -- The answer of `right_forest`, for buffers FIRST and PAST of those lengths.
 abbrev pub rightForestAnswer : List ℕ → ℕ → ℕ → Answer
-rightForestAnswer a first past =
-    lengthChecked maxLength (length a) (outputChecked (length a) first (outputChecked (length a) past (arrayChecked a)))
+rightForestAnswer a first past = forestChecked (length a) first past (arrayChecked a)

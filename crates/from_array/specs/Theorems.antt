@@ -19,9 +19,9 @@ use Rattle.words.specs.Laws.ArrayForest.{length-forestFirst, length-forestPast}
 use Rattle.words.specs.ArrayTheorems.{TextWith, Faulty, valid-exactly, passed-exactly, refused-exactly, text-for-has-array, text-for-each-once, forest-of-every-text}
 use Rattle.answer.specs.declared.Answer.{Answer}
 use Rattle.answer.specs.Answers.{acceptedWith, number}
-use Rattle.answer.specs.Checks.{outputChecked, contentAfter}
-use Rattle.answer.specs.CheckLaws.{output-passes}
-use Rattle.answer.specs.AcceptedContent.{Sized, sized-passes, written-first, written-rest}
+use Rattle.answer.specs.Checks.{contentAfter}
+use Rattle.answer.specs.AcceptedContent.{Sized, written-first, written-rest}
+use Rattle.answer.specs.CheckLaws.{text-passes, forest-passes}
 use Rattle.from_array.specs.Answers.{verdictAnswer, arrayChecked, reconstructAnswer, rightForestAnswer}
 
 -- An answer that refuses the array: document 01's number 6, 7 or 8.
@@ -75,9 +75,7 @@ rightPastAfter a first past = contentAfter (rightForestAnswer a (length first) (
 module _ (a : List ℕ) (sized : Sized (length a)) (text : List ℕ) (room : length a ≤ length text) where
   -- Its answer is then that of the entries and spans alone.
   pub reconstruct-checked : reconstructAnswer a (length text) ≡ arrayChecked a
-  reconstruct-checked =
-      sized-passes (length a) sized (outputChecked (length a) (length text) (arrayChecked a)) ∙
-      output-passes (arrayChecked a) (length a) (length text) room
+  reconstruct-checked = text-passes (length a) sized _ (length text) room
 
   -- It refuses the array exactly when no text over any totally ordered letters has it.
   pub reconstruct-refuses-exactly {ℓ κ} : RefusesArray (reconstructAnswer a (length text)) ↔ (¬ TextWith {ℓ, κ} a)
@@ -108,10 +106,7 @@ module _ (a : List ℕ) (sized : Sized (length a)) (text : List ℕ) (room : len
 module _ (a : List ℕ) (sized : Sized (length a)) (first past : List ℕ) (first-room : length a ≤ length first) (past-room : length a ≤ length past) where
   -- Its answer is then that of the entries and spans alone.
   pub right-forest-checked : rightForestAnswer a (length first) (length past) ≡ arrayChecked a
-  right-forest-checked =
-      sized-passes (length a) sized (outputChecked (length a) (length first) (outputChecked (length a) (length past) (arrayChecked a))) ∙
-      output-passes (outputChecked (length a) (length past) (arrayChecked a)) (length a) (length first) first-room ∙
-      output-passes (arrayChecked a) (length a) (length past) past-room
+  right-forest-checked = forest-passes (length a) sized _ (length first) (length past) first-room past-room
 
   -- It refuses the array exactly when no text over any totally ordered letters has it.
   pub right-forest-refuses-exactly {ℓ κ} : RefusesArray (rightForestAnswer a (length first) (length past)) ↔ (¬ TextWith {ℓ, κ} a)

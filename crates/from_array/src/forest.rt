@@ -7,7 +7,6 @@ use answer::Answer;
 use answer::Outcome;
 use answer::checks;
 use answer::checks::Check;
-use answer::limits;
 ghost use Prim.Native.Nat.{ℕ, _<_, _≤_};
 ghost use mathlib.Core.Path.{_≡_};
 ghost use lib.ListN.{length, getD};
@@ -81,9 +80,7 @@ pub fn right_forest(array: &[u32], first: &mut [u32], past: &mut [u32]) -> Answe
     ensures ends { λ r. ⌜ now (past .exit) ≡ contentAfter r (forestPast (now (array .entry))) (now (past .entry)) ⌝ }
 {
     let n = array.len();
-    let c = checks::length(Check::Passed, limits::MAX_LENGTH, n);
-    let c = checks::output(c, n, first.len());
-    let c = checks::output(c, n, past.len());
+    let c = checks::forest(n, first.len(), past.len());
     match c {
         Check::Failed { reason, position } => answer::refused(reason, position),
         Check::Passed => {

@@ -7,7 +7,6 @@ use answer::Answer;
 use answer::Outcome;
 use answer::checks;
 use answer::checks::Check;
-use answer::limits;
 ghost use mathlib.Core.Path.{_≡_};
 ghost use Prim.Native.Nat.{_<_, _≤_};
 ghost use lib.ListN.{length};
@@ -53,8 +52,7 @@ pub fn reconstruct(array: &[u32], text: &mut [u32]) -> Answer
     ensures content { λ r. ⌜ now (text .exit) ≡ contentAfter r (textFor (now (array .entry))) (now (text .entry)) ⌝ }
 {
     let n = array.len();
-    let c = checks::length(Check::Passed, limits::MAX_LENGTH, n);
-    let c = checks::output(c, n, text.len());
+    let c = checks::text(n, text.len());
     match c {
         Check::Failed { reason, position } => answer::refused(reason, position),
         Check::Passed => {

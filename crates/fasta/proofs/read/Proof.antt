@@ -5,10 +5,12 @@ use borrow.Author.Tests.{ltb-false}
 use lib.Dec.{ltb}
 use lib.ListN.{length}
 use Rattle.answer.specs.declared.Reason.the-variants.{FileTooLong}
-use Rattle.answer.specs.Checks.{content-refused}
-use Rattle.answer.specs.CheckLaws.{then, passing, failing, if-passed, output-passed}
+use Rattle.answer.specs.Answers.{acceptedWith}
+use Rattle.answer.specs.AfterLaws.{content-refused}
+use Rattle.answer.specs.CheckLaws.{then, passing, failing, if-cleared, output-cleared}
 use Rattle.answer.specs.Limits.{maxLetters, maxInput}
 use borrow.Author.Needs.{needs}
+use Rattle.fasta.specs.Reader.{sizeChecked}
 use Rattle.fasta.proofs.read.Statement.{statement}
 use Rattle.fasta.proofs.read.Tie as tie
 
@@ -36,9 +38,9 @@ read-record-requires c κs =
     let last = told .before .before in
     let args = last .before .before .before .before .args in
     let size = length (args .input .now) in
-    let sized = if-passed (ltb maxInput size) FileTooLong maxInput (last .refuse-if .ensures) (told .enum-told .given .1) in
-    let room = output-passed maxLetters (length (args .letters .now)) (last .before .output .ensures) (sized .before) in
-    (ltb-false maxInput size (sized .holds), room .holds)
+    let checked = passing (then (last .before .output .ensures) (last .refuse-if .ensures)) (acceptedWith 0) (told .enum-told .given .1) in
+    let room = output-cleared (sizeChecked size (acceptedWith 0)) maxLetters (length (args .letters .now)) checked in
+    (ltb-false maxInput size (if-cleared (acceptedWith 0) (ltb maxInput size) FileTooLong maxInput (room .1) .0), room .0)
 
 returns : tie.Need-returns
 returns c =

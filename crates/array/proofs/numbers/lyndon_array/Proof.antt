@@ -1,21 +1,15 @@
 -- `array::numbers::lyndon_array` meets its contract: the checks give the answer, and the array is written where they pass.
 -- Assumes nothing.
 use native.Mathlib.Omega.{arith}
-use Rattle.answer.specs.Checks.{content-refused, content-accepted}
+use Rattle.answer.specs.AfterLaws.{content-refused, content-accepted}
 use Rattle.array.specs.Core.Fill.{TextFits}
 use Rattle.array.proofs.AnswerLaws.{array-refused, array-accepted, array-fits}
 use borrow.Author.Needs.{needs}
 use Rattle.array.proofs.numbers.lyndon_array.Statement.{statement}
 use Rattle.array.proofs.numbers.lyndon_array.Tie as tie
 
-length-requires : tie.Need-length-requires
-length-requires c κs = search needs
-
-order-requires : tie.Need-order-requires
-order-requires c κs = search needs
-
-output-requires : tie.Need-output-requires
-output-requires c κs = search needs
+ordered-text-requires : tie.Need-ordered-text-requires
+ordered-text-requires c κs = search needs
 
 enum-known-c : tie.Need-enum-known-c
 enum-known-c c = search needs
@@ -30,7 +24,7 @@ enum-told : tie.Need-enum-told
 enum-told c = search needs
 
 abbrev start : tie.After-enum-told → tie.Start
-start c = c .before .before .before .before .before .before .before
+start c = c .before .before .before .before .before
 
 fits : (c : tie.After-enum-told) → TextFits (start c .args .text .now) (start c .args .out .now)
 fits c = search array-fits
@@ -54,9 +48,7 @@ pub lyndon-array-spec : {M : Type 1} → statement M
 lyndon-array-spec =
     tie.close
     (tie.spec
-    length-requires
-    order-requires
-    output-requires
+    ordered-text-requires
     enum-known-c
     refused-requires
     enum-told

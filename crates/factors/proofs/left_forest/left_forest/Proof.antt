@@ -5,36 +5,27 @@ use Prim.Native.Nat.{_<_}
 use native.Mathlib.Omega.{arith}
 use lib.ListN.{length}
 use borrow.Author.Needs.{needs}
-use Rattle.answer.specs.Limits.{maxLength}
-use Rattle.answer.specs.Checks.{content-refused, content-accepted}
-use Rattle.answer.specs.CheckLaws.{then, passing, failing, length-passed, output-passed}
+use Rattle.answer.specs.AfterLaws.{content-refused, content-accepted}
+use Rattle.answer.specs.CheckLaws.{passing, failing, forest-passed}
 use Rattle.factors.specs.TextRoom.{TextRoom}
 use Rattle.factors.proofs.left_forest.left_forest.Statement.{statement}
 use Rattle.factors.proofs.left_forest.left_forest.Tie as tie
 
 abbrev start : tie.After-enum-told → tie.Start
-start c = c .before .before .before .before .before .before .before .before
+start c = c .before .before .before .before .before .before
 
 -- What is known where the checks pass.
 room : (c : tie.After-enum-told)
     → (0 < length (start c .args .text .now)) × TextRoom (start c .args .text .now) (start c .args .first .now)
     × TextRoom (start c .args .text .now) (start c .args .past .now)
 room c =
-    let last = c .before .before in
-    let n = length (start c .args .text .now) in
-    let in-past = output-passed n (length (start c .args .past .now)) (last .output2 .ensures) (c .enum-told .given .1) in
-    let in-first = output-passed n (length (start c .args .first .now)) (last .before .output .ensures) (in-past .before) in
-    let sized = length-passed maxLength n (last .before .before .length .ensures) (in-first .before) in
-    (sized .holds .0, record { short = sized .holds .1; places = in-first .holds }, record { short = sized .holds .1; places = in-past .holds })
+    let args = start c .args in
+    let n = length (args .text .now) in
+    let known = forest-passed n (length (args .first .now)) (length (args .past .now)) (c .before .before .forest .ensures) (c .enum-told .given .1) in
+    (known .0, record { short = known .1; places = known .2 }, record { short = known .1; places = known .3 })
 
-length-requires : tie.Need-length-requires
-length-requires c κs = search needs
-
-output-requires : tie.Need-output-requires
-output-requires c κs = search needs
-
-output-requires-2 : tie.Need-output-requires-2
-output-requires-2 c κs = search needs
+forest-requires : tie.Need-forest-requires
+forest-requires c κs = search needs
 
 enum-known-c : tie.Need-enum-known-c
 enum-known-c c = search needs
@@ -57,7 +48,7 @@ accepted-requires c κs = search needs
 returns : tie.Need-returns
 returns c =
     let last = c .before .before .before .before in
-    let checked = then (last .before .before .length .ensures) (then (last .before .output .ensures) (last .output2 .ensures)) in (
+    let checked = last .forest .ensures in (
       c .refused .ensures ∙ sym (failing checked _ (c .before .before .c .given .1)),
       (search content-refused, search content-refused),
     )
@@ -73,7 +64,7 @@ returns-2 c =
     let grown = c .before .before .before .before .before in
     let told = grown .before .before .before in
     let last = told .before .before in
-    let checked = then (last .before .before .length .ensures) (then (last .before .output .ensures) (last .output2 .ensures)) in (
+    let checked = last .forest .ensures in (
       c .accepted .ensures ∙ sym (passing checked _ (told .enum-told .given .1)),
       (
         content-accepted _ _ (c .accepted .ensures) _ _ _ (grown .grow .ensures .in-first),
@@ -85,9 +76,7 @@ pub left-forest-spec : {M : Type 1} → statement M
 left-forest-spec =
     tie.close
     (tie.spec
-    length-requires
-    output-requires
-    output-requires-2
+    forest-requires
     enum-known-c
     refused-requires
     enum-told

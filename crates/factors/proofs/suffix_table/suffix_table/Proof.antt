@@ -4,31 +4,25 @@ use mathlib.Core.Path.{sym, _∙_}
 use native.Mathlib.Omega.{arith}
 use lib.ListN.{length}
 use borrow.Author.Needs.{needs}
-use Rattle.answer.specs.Limits.{maxLength}
-use Rattle.answer.specs.Checks.{content-refused, content-accepted}
-use Rattle.answer.specs.CheckLaws.{then, passing, failing, length-passed, output-passed}
+use Rattle.answer.specs.AfterLaws.{content-refused, content-accepted}
+use Rattle.answer.specs.CheckLaws.{passing, failing, text-passed}
 use Rattle.factors.specs.TextRoom.{TextRoom}
 use Rattle.factors.proofs.Tabling.{tabled-written}
 use Rattle.factors.proofs.suffix_table.suffix_table.Statement.{statement}
 use Rattle.factors.proofs.suffix_table.suffix_table.Tie as tie
 
 abbrev start : tie.After-enum-told → tie.Start
-start c = c .before .before .before .before .before .before
+start c = c .before .before .before .before .before
 
 -- What is known where the checks pass.
 room : (c : tie.After-enum-told) → TextRoom (start c .args .text .now) (start c .args .out .now)
 room c =
-    let last = c .before .before in
-    let n = length (start c .args .text .now) in
-    let given = output-passed n (length (start c .args .out .now)) (last .output .ensures) (c .enum-told .given .1) in
-    let sized = length-passed maxLength n (last .before .length .ensures) (given .before) in
-    record { short = sized .holds .1; places = given .holds }
+    let args = start c .args in
+    let known = text-passed (length (args .text .now)) (length (args .out .now)) (c .before .before .text .ensures) (c .enum-told .given .1) in
+    record { short = known .1; places = known .2 }
 
-length-requires : tie.Need-length-requires
-length-requires c κs = search needs
-
-output-requires : tie.Need-output-requires
-output-requires c κs = search needs
+text-requires : tie.Need-text-requires
+text-requires c κs = search needs
 
 enum-known-c : tie.Need-enum-known-c
 enum-known-c c = search needs
@@ -51,7 +45,7 @@ accepted-requires c κs = search needs
 returns : tie.Need-returns
 returns c =
     let last = c .before .before .before .before in (
-      c .refused .ensures ∙ sym (failing (then (last .before .length .ensures) (last .output .ensures)) _ (c .before .before .c .given .1)),
+      c .refused .ensures ∙ sym (failing (last .text .ensures) _ (c .before .before .c .given .1)),
       search content-refused,
     )
 
@@ -63,7 +57,7 @@ returns-2 c =
     let done = c .before .before .before in
     let told = done .before .before in
     let last = told .before .before in (
-      c .accepted .ensures ∙ sym (passing (then (last .before .length .ensures) (last .output .ensures)) _ (told .enum-told .given .1)),
+      c .accepted .ensures ∙ sym (passing (last .text .ensures) _ (told .enum-told .given .1)),
       content-accepted _ _ (c .accepted .ensures) _ _ _ (tabled-written _ _ _ (room told) (done .fill-table .ensures)),
     )
 
@@ -71,8 +65,7 @@ pub suffix-table-spec : {M : Type 1} → statement M
 suffix-table-spec =
     tie.close
     (tie.spec
-    length-requires
-    output-requires
+    text-requires
     enum-known-c
     refused-requires
     enum-told

@@ -9,8 +9,8 @@ use borrow.Author.Needs.{needs}
 use Rattle.words.specs.ArrayForest.{firstFor, pastFor, forestFirst, forestPast}
 use Rattle.answer.specs.Answers.{acceptedWith}
 use Rattle.answer.specs.Limits.{maxLength}
-use Rattle.answer.specs.Checks.{content-refused, content-told, content-accepted}
-use Rattle.answer.specs.CheckLaws.{then, passing, failing, length-passed, output-passed}
+use Rattle.answer.specs.AfterLaws.{content-refused, content-told, content-accepted}
+use Rattle.answer.specs.CheckLaws.{passing, failing, forest-passed}
 use Rattle.from_array.specs.Answers.{arrayChecked, rightForestAnswer}
 use Rattle.answer.specs.Content.{Holds}
 use Rattle.from_array.proofs.Calls.{Accepting, accepting}
@@ -20,7 +20,7 @@ use Rattle.from_array.proofs.forest.right_forest.Tie as tie
 
 -- The checks of length and buffers pass.
 abbrev start : tie.After-enum-told → tie.Start
-start c = c .before .before .before .before .before .before .before .before
+start c = c .before .before .before .before .before .before
 
 abbrev a : tie.After-enum-told → List ℕ
 a c = start c .args .array .now
@@ -33,15 +33,11 @@ past c = start c .args .past .now
 
 room : (c : tie.After-enum-told) → (length (a c) ≤ maxLength) × (length (a c) ≤ length (first c)) × (length (a c) ≤ length (past c))
 room c =
-    let last = c .before .before in
-    let in-past = output-passed (length (a c)) (length (past c)) (last .output2 .ensures) (c .enum-told .given .1) in
-    let in-first = output-passed (length (a c)) (length (first c)) (last .before .output .ensures) (in-past .before) in
-    (length-passed maxLength (length (a c)) (last .before .before .length .ensures) (in-first .before) .holds .1, in-first .holds, in-past .holds)
+    let known = forest-passed (length (a c)) (length (first c)) (length (past c)) (c .before .before .forest .ensures) (c .enum-told .given .1) in
+    (known .1, known .2, known .3)
 
 checked : (c : tie.After-enum-told) → rightForestAnswer (a c) (length (first c)) (length (past c)) ≡ arrayChecked (a c)
-checked c =
-    let last = c .before .before in
-    passing (then (last .before .before .length .ensures) (then (last .before .output .ensures) (last .output2 .ensures))) _ (c .enum-told .given .1)
+checked c = passing (c .before .before .forest .ensures) _ (c .enum-told .given .1)
 
 -- The array is accepted.
 abbrev passed : tie.After-known-told2 → tie.After-enum-told
@@ -61,14 +57,8 @@ wrote-first : (c : tie.After-write-first)
     → Holds (firstFor (a (passed (told c)))) (length (a (passed (told c)))) (first (passed (told c))) (c .write-first .last .1 .0)
 wrote-first c = c .write-first .ensures
 
-length-requires : tie.Need-length-requires
-length-requires c κs = search needs
-
-output-requires : tie.Need-output-requires
-output-requires c κs = search needs
-
-output-requires-2 : tie.Need-output-requires-2
-output-requires-2 c κs = search needs
+forest-requires : tie.Need-forest-requires
+forest-requires c κs = search needs
 
 enum-known-c : tie.Need-enum-known-c
 enum-known-c c = search needs
@@ -118,7 +108,7 @@ accepted-requires c κs = search needs
 returns-2 : tie.Need-returns-2
 returns-2 c =
     let last = c .before .before .before .before in
-    let all = then (last .before .before .length .ensures) (then (last .before .output .ensures) (last .output2 .ensures)) in (
+    let all = last .forest .ensures in (
       c .refused .ensures ∙ sym (failing all _ (c .before .before .c .given .1)),
       (search content-refused, search content-refused),
     )
@@ -150,9 +140,7 @@ pub right-forest-spec : {M : Type 1} → statement M
 right-forest-spec =
     tie.close
     (tie.spec
-    length-requires
-    output-requires
-    output-requires-2
+    forest-requires
     enum-known-c
     refused-requires
     enum-told

@@ -8,8 +8,8 @@ use borrow.Author.Needs.{needs}
 use Rattle.words.specs.ValidArray.{letterFor, textFor}
 use Rattle.answer.specs.Answers.{acceptedWith}
 use Rattle.answer.specs.Limits.{maxLength}
-use Rattle.answer.specs.Checks.{content-refused, content-told, content-accepted}
-use Rattle.answer.specs.CheckLaws.{then, passing, failing, length-passed, output-passed}
+use Rattle.answer.specs.AfterLaws.{content-refused, content-told, content-accepted}
+use Rattle.answer.specs.CheckLaws.{passing, failing, text-passed}
 use Rattle.from_array.specs.Answers.{arrayChecked, reconstructAnswer}
 use Rattle.from_array.proofs.Calls.{Accepting, accepting}
 use Rattle.answer.specs.ContentLaws.{holds-written}
@@ -18,7 +18,7 @@ use Rattle.from_array.proofs.text.reconstruct.Tie as tie
 
 -- The checks of length and buffer pass.
 abbrev start : tie.After-enum-told → tie.Start
-start c = c .before .before .before .before .before .before
+start c = c .before .before .before .before .before
 
 abbrev a : tie.After-enum-told → List ℕ
 a c = start c .args .array .now
@@ -28,14 +28,11 @@ text c = start c .args .text .now
 
 room : (c : tie.After-enum-told) → (length (a c) ≤ maxLength) × (length (a c) ≤ length (text c))
 room c =
-    let last = c .before .before in
-    let given = output-passed (length (a c)) (length (text c)) (last .output .ensures) (c .enum-told .given .1) in
-    (length-passed maxLength (length (a c)) (last .before .length .ensures) (given .before) .holds .1, given .holds)
+    let known = text-passed (length (a c)) (length (text c)) (c .before .before .text .ensures) (c .enum-told .given .1) in
+    (known .1, known .2)
 
 checked : (c : tie.After-enum-told) → reconstructAnswer (a c) (length (text c)) ≡ arrayChecked (a c)
-checked c =
-    let last = c .before .before in
-    passing (then (last .before .length .ensures) (last .output .ensures)) _ (c .enum-told .given .1)
+checked c = passing (c .before .before .text .ensures) _ (c .enum-told .given .1)
 
 -- The array is accepted.
 abbrev passed : tie.After-known-told2 → tie.After-enum-told
@@ -47,11 +44,8 @@ accepted-here c =
     (c .before .before .before .check .ensures)
     (c .before .outcome .given .1)
 
-length-requires : tie.Need-length-requires
-length-requires c κs = search needs
-
-output-requires : tie.Need-output-requires
-output-requires c κs = search needs
+text-requires : tie.Need-text-requires
+text-requires c κs = search needs
 
 enum-known-c : tie.Need-enum-known-c
 enum-known-c c = search needs
@@ -87,7 +81,7 @@ accepted-requires c κs = search needs
 returns-2 : tie.Need-returns-2
 returns-2 c =
     let last = c .before .before .before .before in (
-      c .refused .ensures ∙ sym (failing (then (last .before .length .ensures) (last .output .ensures)) _ (c .before .before .c .given .1)),
+      c .refused .ensures ∙ sym (failing (last .text .ensures) _ (c .before .before .c .given .1)),
       search content-refused,
     )
 
@@ -110,8 +104,7 @@ pub reconstruct-spec : {M : Type 1} → statement M
 reconstruct-spec =
     tie.close
     (tie.spec
-    length-requires
-    output-requires
+    text-requires
     enum-known-c
     refused-requires
     enum-told

@@ -1,0 +1,21 @@
+-- `answer::checks::runs` meets its contract: one check after the other.
+-- Assumes nothing.
+use Rattle.answer.proofs.Ladders.{runs-adds}
+use borrow.Author.Needs.{needs}
+use Rattle.answer.proofs.checks.runs.Statement.{statement}
+use Rattle.answer.proofs.checks.runs.Tie as tie
+
+length-requires : tie.Need-length-requires
+length-requires c κs = search needs
+
+run-list-requires : tie.Need-run-list-requires
+run-list-requires c κs = search needs
+
+run-work-requires : tie.Need-run-work-requires
+run-work-requires c κs = search needs
+
+returns : tie.Need-returns
+returns c = search runs-adds
+
+pub runs-spec : {M : Type 1} → statement M
+runs-spec = tie.close (tie.spec length-requires run-list-requires run-work-requires returns)

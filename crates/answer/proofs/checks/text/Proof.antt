@@ -1,0 +1,18 @@
+-- `answer::checks::text` meets its contract: one check after the other.
+-- Assumes nothing.
+use Rattle.answer.proofs.Ladders.{text-adds}
+use borrow.Author.Needs.{needs}
+use Rattle.answer.proofs.checks.text.Statement.{statement}
+use Rattle.answer.proofs.checks.text.Tie as tie
+
+length-requires : tie.Need-length-requires
+length-requires c κs = search needs
+
+output-requires : tie.Need-output-requires
+output-requires c κs = search needs
+
+returns : tie.Need-returns
+returns c = search text-adds
+
+pub text-spec : {M : Type 1} → statement M
+text-spec = tie.close (tie.spec length-requires output-requires returns)
