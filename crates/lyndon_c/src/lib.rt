@@ -6,18 +6,13 @@ ghost use mathlib.Core.Path.{_≡_};
 ghost use lib.ListN.{length};
 ghost use Rattle.lyndon_c.specs.Record.{recordOf};
 ghost use Rattle.answer.specs.Checks.{contentAfter};
-ghost use Rattle.array.specs.Calls.{arrayAnswer, runsAnswer, runNumbers, bothArrays};
-ghost use Rattle.fasta.specs.Reader.{readerAnswer, lettersOf};
-ghost use Rattle.factors.specs.Default.{decided-default};
+ghost use Rattle.array.specs.Calls.{arrayAnswer, runsAnswer};
+ghost use Rattle.array.specs.Theorems.{arrayAfter, listAfter, workAfter};
 ghost use Rattle.factors.specs.Answers.{factorizationAnswer, suffixTableAnswer, leftForestAnswer};
+ghost use Rattle.factors.specs.Theorems.{startsAfter, tableAfter, leftFirstAfter, leftPastAfter};
 ghost use Rattle.from_array.specs.Answers.{reconstructAnswer, rightForestAnswer};
-ghost use Rattle.words.specs.ArrayForest.{forestFirst, forestPast};
-ghost use Rattle.words.specs.ValidArray.{textFor};
-ghost use Rattle.words.specs.Decided.{decided-order};
-ghost use Rattle.words.specs.Compute.LyndonArray.{arrayOf};
-ghost use Rattle.words.specs.Compute.Factorization.{factorizationOf};
-ghost use Rattle.words.specs.Compute.SuffixTable.{suffixTableOf};
-ghost use Rattle.words.specs.Compute.LeftForest.{leftFirstOf, leftPastOf};
+ghost use Rattle.from_array.specs.Theorems.{textAfter, rightFirstAfter, rightPastAfter};
+ghost use Rattle.fasta.specs.Reader.{readerAnswer, lettersOf};
 
 // An answer as C has it: number 0 and the count, or the refusal's number and the position.
 #[repr(C)]
@@ -39,7 +34,7 @@ fn exported(a: Answer) -> LyndonAnswer
 #[no_mangle]
 pub extern "C" fn lyndon_array_u8(text: &[u8], order: u32, out: &mut [u32]) -> LyndonAnswer
     ensures answer { λ r. ⌜ r ≡ recordOf (arrayAnswer (length (now (text .entry))) order (length (now (out .entry)))) ⌝ }
-    ensures content { λ r. ⌜ now (out .exit) ≡ contentAfter (arrayAnswer (length (now (text .entry))) order (length (now (out .entry)))) (arrayOf (decided-order order) (now (text .entry))) (now (out .entry)) ⌝ }
+    ensures content { λ r. ⌜ now (out .exit) ≡ arrayAfter (now (text .entry)) order (now (out .entry)) ⌝ }
 {
     exported(array::bytes::lyndon_array(text, order, out))
 }
@@ -48,7 +43,7 @@ pub extern "C" fn lyndon_array_u8(text: &[u8], order: u32, out: &mut [u32]) -> L
 #[no_mangle]
 pub extern "C" fn lyndon_array_u32(text: &[u32], order: u32, out: &mut [u32]) -> LyndonAnswer
     ensures answer { λ r. ⌜ r ≡ recordOf (arrayAnswer (length (now (text .entry))) order (length (now (out .entry)))) ⌝ }
-    ensures content { λ r. ⌜ now (out .exit) ≡ contentAfter (arrayAnswer (length (now (text .entry))) order (length (now (out .entry)))) (arrayOf (decided-order order) (now (text .entry))) (now (out .entry)) ⌝ }
+    ensures content { λ r. ⌜ now (out .exit) ≡ arrayAfter (now (text .entry)) order (now (out .entry)) ⌝ }
 {
     exported(array::numbers::lyndon_array(text, order, out))
 }
@@ -57,8 +52,8 @@ pub extern "C" fn lyndon_array_u32(text: &[u32], order: u32, out: &mut [u32]) ->
 #[no_mangle]
 pub extern "C" fn lyndon_runs(text: &[u8], work: &mut [u32], list: &mut [u32]) -> LyndonAnswer
     ensures answer { λ r. ⌜ r ≡ recordOf (runsAnswer (now (text .entry)) (length (now (work .entry))) (length (now (list .entry)))) ⌝ }
-    ensures entries { λ r. ⌜ now (list .exit) ≡ contentAfter (runsAnswer (now (text .entry)) (length (now (work .entry))) (length (now (list .entry)))) (runNumbers (now (text .entry))) (now (list .entry)) ⌝ }
-    ensures arrays { λ r. ⌜ now (work .exit) ≡ contentAfter (runsAnswer (now (text .entry)) (length (now (work .entry))) (length (now (list .entry)))) (bothArrays (now (text .entry))) (now (work .entry)) ⌝ }
+    ensures entries { λ r. ⌜ now (list .exit) ≡ listAfter (now (text .entry)) (now (work .entry)) (now (list .entry)) ⌝ }
+    ensures arrays { λ r. ⌜ now (work .exit) ≡ workAfter (now (text .entry)) (now (work .entry)) (now (list .entry)) ⌝ }
 {
     exported(array::runs::runs(text, work, list))
 }
@@ -67,7 +62,7 @@ pub extern "C" fn lyndon_runs(text: &[u8], work: &mut [u32], list: &mut [u32]) -
 #[no_mangle]
 pub extern "C" fn lyndon_factorization(text: &[u8], out: &mut [u32]) -> LyndonAnswer
     ensures answer { λ r. ⌜ r ≡ recordOf (factorizationAnswer (now (text .entry)) (length (now (out .entry)))) ⌝ }
-    ensures content { λ r. ⌜ now (out .exit) ≡ contentAfter (factorizationAnswer (now (text .entry)) (length (now (out .entry)))) (factorizationOf decided-default (now (text .entry))) (now (out .entry)) ⌝ }
+    ensures content { λ r. ⌜ now (out .exit) ≡ startsAfter (now (text .entry)) (now (out .entry)) ⌝ }
 {
     exported(factors::factorization::factorization(text, out))
 }
@@ -76,7 +71,7 @@ pub extern "C" fn lyndon_factorization(text: &[u8], out: &mut [u32]) -> LyndonAn
 #[no_mangle]
 pub extern "C" fn lyndon_suffix_table(text: &[u8], out: &mut [u32]) -> LyndonAnswer
     ensures answer { λ r. ⌜ r ≡ recordOf (suffixTableAnswer (now (text .entry)) (length (now (out .entry)))) ⌝ }
-    ensures content { λ r. ⌜ now (out .exit) ≡ contentAfter (suffixTableAnswer (now (text .entry)) (length (now (out .entry)))) (suffixTableOf decided-default (now (text .entry))) (now (out .entry)) ⌝ }
+    ensures content { λ r. ⌜ now (out .exit) ≡ tableAfter (now (text .entry)) (now (out .entry)) ⌝ }
 {
     exported(factors::suffix_table::suffix_table(text, out))
 }
@@ -89,8 +84,8 @@ pub extern "C" fn lyndon_left_forest(
     past: &mut [u32],
 ) -> LyndonAnswer
     ensures answer { λ r. ⌜ r ≡ recordOf (leftForestAnswer (now (text .entry)) (length (now (first .entry))) (length (now (past .entry)))) ⌝ }
-    ensures starts { λ r. ⌜ now (first .exit) ≡ contentAfter (leftForestAnswer (now (text .entry)) (length (now (first .entry))) (length (now (past .entry)))) (leftFirstOf decided-default (now (text .entry)) (factorizationOf decided-default (now (text .entry)))) (now (first .entry)) ⌝ }
-    ensures ends { λ r. ⌜ now (past .exit) ≡ contentAfter (leftForestAnswer (now (text .entry)) (length (now (first .entry))) (length (now (past .entry)))) (leftPastOf decided-default (now (text .entry)) (factorizationOf decided-default (now (text .entry)))) (now (past .entry)) ⌝ }
+    ensures starts { λ r. ⌜ now (first .exit) ≡ leftFirstAfter (now (text .entry)) (now (first .entry)) (now (past .entry)) ⌝ }
+    ensures ends { λ r. ⌜ now (past .exit) ≡ leftPastAfter (now (text .entry)) (now (first .entry)) (now (past .entry)) ⌝ }
 {
     exported(factors::left_forest::left_forest(text, first, past))
 }
@@ -103,8 +98,8 @@ pub extern "C" fn lyndon_right_forest(
     past: &mut [u32],
 ) -> LyndonAnswer
     ensures answer { λ r. ⌜ r ≡ recordOf (rightForestAnswer (now (array .entry)) (length (now (first .entry))) (length (now (past .entry)))) ⌝ }
-    ensures starts { λ r. ⌜ now (first .exit) ≡ contentAfter (rightForestAnswer (now (array .entry)) (length (now (first .entry))) (length (now (past .entry)))) (forestFirst (now (array .entry))) (now (first .entry)) ⌝ }
-    ensures ends { λ r. ⌜ now (past .exit) ≡ contentAfter (rightForestAnswer (now (array .entry)) (length (now (first .entry))) (length (now (past .entry)))) (forestPast (now (array .entry))) (now (past .entry)) ⌝ }
+    ensures starts { λ r. ⌜ now (first .exit) ≡ rightFirstAfter (now (array .entry)) (now (first .entry)) (now (past .entry)) ⌝ }
+    ensures ends { λ r. ⌜ now (past .exit) ≡ rightPastAfter (now (array .entry)) (now (first .entry)) (now (past .entry)) ⌝ }
 {
     exported(from_array::right_forest(array, first, past))
 }
@@ -113,7 +108,7 @@ pub extern "C" fn lyndon_right_forest(
 #[no_mangle]
 pub extern "C" fn lyndon_reconstruct(array: &[u32], text: &mut [u32]) -> LyndonAnswer
     ensures answer { λ r. ⌜ r ≡ recordOf (reconstructAnswer (now (array .entry)) (length (now (text .entry)))) ⌝ }
-    ensures content { λ r. ⌜ now (text .exit) ≡ contentAfter (reconstructAnswer (now (array .entry)) (length (now (text .entry)))) (textFor (now (array .entry))) (now (text .entry)) ⌝ }
+    ensures content { λ r. ⌜ now (text .exit) ≡ textAfter (now (array .entry)) (now (text .entry)) ⌝ }
 {
     exported(from_array::reconstruct(array, text))
 }
