@@ -1,13 +1,13 @@
 -- The name at a position of the input, by the byte that stands there.
 -- Assumes nothing.
 use mathlib.Core.Path.{_≡_, ap}
-use mathlib.Core.List.{List, []}
+use mathlib.Core.List.{List}
 use Prim.Native.Nat.{ℕ, suc, _≤_, _<_}
 use lib.ListN.{length, getD, drop, drop-of-length-le}
 use lib.Seq.{drop-cons}
 use Rattle.fasta.specs.declared.bytes.NameByte.{NameByte}
 use Rattle.fasta.specs.Bytes.{nameByteOf}
-use Rattle.fasta.specs.Name.{nameOver, nameStep, nameFrom, nameBefore, nameIn}
+use Rattle.fasta.specs.Name.{nameOver, nameStep, nameFrom}
 
 pub name-ends : (x : List ℕ) (at count : ℕ) → length x ≤ at → nameFrom at count (drop at x) ≡ nameOver at count
 name-ends x at count h = rw (drop-of-length-le x h)
@@ -19,13 +19,3 @@ pub name-at :
 name-at x at count h e =
     rw (drop-cons x at 0 h)
     (ap (λ (j : NameByte). nameStep j at count (nameFrom (suc at) (suc count) (drop (suc at) x))) e)
-
--- The bytes of the name go by the sort of the byte at their position.
-pub bytes-at :
-    (x : List ℕ) (at : ℕ) → at < length x → {k : NameByte} → nameByteOf (getD x at 0) ≡ k
-    → nameIn (drop at x) ≡ nameBefore k (getD x at 0) (nameIn (drop (suc at) x))
-bytes-at x at h e =
-    rw (drop-cons x at 0 h) (ap (λ (j : NameByte). nameBefore j (getD x at 0) (nameIn (drop (suc at) x))) e)
-
-pub bytes-over : (x : List ℕ) (at : ℕ) → length x ≤ at → nameIn (drop at x) ≡ []
-bytes-over x at h = rw (drop-of-length-le x h)

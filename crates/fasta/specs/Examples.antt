@@ -6,7 +6,7 @@ use lib.ListN.{replicate}
 use Rattle.answer.specs.declared.Reason.the-variants.{ShortOutput, NoHeader, BadName, UnfitByte, SecondRecord, NoLetters, TooManyLetters, FileTooLong}
 use Rattle.answer.specs.Answers.{acceptedWith, refusedFor}
 use Rattle.fasta.specs.Bytes.{headerMark, lineEnd}
-use Rattle.fasta.specs.Reader.{readerAnswer, lettersOf}
+use Rattle.fasta.specs.Reader.{readerAnswer, lettersOf, nameEndAfter}
 
 -- `>m`, LF, `AC`, CR, LF, LF, `gt`: four letters.
 four-letters : readerAnswer (62 ∷ 109 ∷ 10 ∷ 65 ∷ 67 ∷ 13 ∷ 10 ∷ 10 ∷ 103 ∷ 116 ∷ []) 2048 ≡ acceptedWith 4
@@ -15,6 +15,10 @@ four-letters = refl
 -- They are kept as they are.
 letters-kept : lettersOf (62 ∷ 109 ∷ 10 ∷ 65 ∷ 67 ∷ 13 ∷ 10 ∷ 10 ∷ 103 ∷ 116 ∷ []) ≡ 65 ∷ 67 ∷ 103 ∷ 116 ∷ []
 letters-kept = refl
+
+-- The name ends at 2.
+name-end : nameEndAfter (acceptedWith 4) (62 ∷ 109 ∷ 10 ∷ 65 ∷ 67 ∷ 13 ∷ 10 ∷ 10 ∷ 103 ∷ 116 ∷ []) ≡ 2
+name-end = refl
 
 -- A buffer of 2,047 places.
 short-buffer : readerAnswer [] 2047 ≡ refusedFor ShortOutput 0

@@ -1,5 +1,4 @@
 pub mod Positions
-pub mod Names
 pub mod Classes
 pub mod Stands
 pub mod SequenceLetters

@@ -2,9 +2,9 @@
 -- Assumes nothing.
 use mathlib.Core.Bool.{cond}
 use mathlib.Core.List.{List, [], _∷_}
-use Prim.Native.Nat.{ℕ, suc}
+use Prim.Native.Nat.{ℕ, suc, _+_}
 use lib.Dec.{ltb, eqb}
-use lib.ListN.{drop}
+use lib.ListN.{length, drop}
 use Rattle.fasta.specs.declared.bytes.NameByte.{NameByte}
 use Rattle.fasta.specs.declared.bytes.NameByte.the-variants.{Part, Past, Foreign}
 use Rattle.fasta.specs.declared.name.Name.{Name}
@@ -17,7 +17,7 @@ maxName = 60
 
 -- A name of count bytes that is over at position p: none is empty.
 abbrev pub nameOver : ℕ → ℕ → Name
-nameOver p count = cond (eqb count 0) (Misnamed p) Named
+nameOver p count = cond (eqb count 0) (Misnamed p) (Named p)
 
 -- What a byte at position p is to a name of count bytes before it; rest is what the bytes after it make of the name.
 abbrev pub nameStep : NameByte → ℕ → ℕ → Name → Name
@@ -29,6 +29,11 @@ nameStep Foreign p count rest = Misnamed p
 abbrev pub nameFrom : ℕ → ℕ → List ℕ → Name
 nameFrom p count [] = nameOver p count
 nameFrom p count (b ∷ s) = nameStep (nameByteOf b) p count (nameFrom (suc p) (suc count) s)
+
+-- Where a name ends that is found, or 0 where none is.
+abbrev pub endOf : Name → ℕ
+endOf (Named end) = end
+endOf (Misnamed position) = 0
 
 -- The bytes of a name: b, a byte of this kind, before those of the rest.
 abbrev pub nameBefore : NameByte → ℕ → List ℕ → List ℕ
@@ -44,3 +49,7 @@ nameIn (b ∷ s) = nameBefore (nameByteOf b) b (nameIn s)
 -- The name of the record of x that starts at p, with its '>'.
 abbrev pub recordName : List ℕ → ℕ → List ℕ
 recordName x p = nameIn (drop (suc p) x)
+
+-- Where that name ends: past its last byte.
+abbrev pub nameEnd : List ℕ → ℕ → ℕ
+nameEnd x p = suc p + length (recordName x p)

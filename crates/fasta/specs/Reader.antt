@@ -1,4 +1,4 @@
--- What the FASTA reader answers and which letters it writes (document 01, "The FASTA reader and the repeat lister"; rows 4 and 9 to 15 of its table).
+-- What the FASTA reader answers, which letters it writes and where the name ends (document 01, "The FASTA reader and the repeat lister"; rows 4 and 9 to 15 of its table).
 -- Computed; the rows as conditions on the input stand in Rows, that the two agree in RowTheorems.
 -- Assumes nothing.
 use mathlib.Core.Bool.{false, cond}
@@ -7,6 +7,8 @@ use Prim.Native.Nat.{ℕ, suc}
 use lib.Dec.{ltb, eqb}
 use lib.ListN.{length, drop}
 use Rattle.answer.specs.declared.Answer.{Answer}
+use Rattle.answer.specs.declared.Outcome.{Outcome}
+use Rattle.answer.specs.declared.Outcome.the-variants.{Accepted, Refused}
 use Rattle.answer.specs.declared.Reason.the-variants.{NoHeader, BadName, SecondRecord, NoLetters, FileTooLong}
 use Rattle.answer.specs.Answers.{acceptedWith, refusedFor}
 use Rattle.answer.specs.Checks.{refusedIf, outputChecked}
@@ -16,7 +18,7 @@ use Rattle.fasta.specs.declared.name.Name.the-variants.{Named, Misnamed}
 use Rattle.fasta.specs.declared.lines.Ending.{Ending}
 use Rattle.fasta.specs.declared.lines.Ending.the-variants.{RefusedAt, NextRecord, Finished}
 use Rattle.fasta.specs.Bytes.{headerMark, startsWith}
-use Rattle.fasta.specs.Name.{nameFrom}
+use Rattle.fasta.specs.Name.{nameFrom, endOf, nameEnd}
 use Rattle.fasta.specs.Lines.{afterLine, linesFrom, lettersIn}
 
 -- Refusal 9: byte 0 of a record that starts at p and whose bytes are s.
@@ -25,7 +27,7 @@ headerChecked p s rest = cond (startsWith headerMark s) rest (RefusedAt NoHeader
 
 -- Refusal 10: the name.
 abbrev pub nameChecked : Name → Ending → Ending
-nameChecked Named rest = rest
+nameChecked (Named end) rest = rest
 nameChecked (Misnamed position) rest = RefusedAt BadName position
 
 -- Where the sequence lines start of the record of x that starts at p: past the line of its name.
@@ -38,6 +40,10 @@ recordEnding x p =
     headerChecked p (drop p x)
     (nameChecked (nameFrom (suc p) 0 (drop (suc p) x))
     (linesFrom (linesStart x p) false 0 (drop (linesStart x p) x)))
+
+-- Where the name of that record is found to end, or 0 where refusals 9 and 10 find none.
+abbrev pub nameEndFound : List ℕ → ℕ → ℕ
+nameEndFound x p = cond (startsWith headerMark (drop p x)) (endOf (nameFrom (suc p) 0 (drop (suc p) x))) 0
 
 -- The letters of the record of x that starts at p and is its last.
 abbrev pub recordLetters : List ℕ → ℕ → List ℕ
@@ -60,3 +66,12 @@ readerAnswer x places = outputChecked maxLetters places (sizeChecked (length x) 
 -- The letters that the reader writes for an accepted input x.
 abbrev pub lettersOf : List ℕ → List ℕ
 lettersOf x = recordLetters x 0
+
+-- Where the name of the input x ends by the reader's outcome: 0 where it refuses.
+abbrev pub nameEndIn : Outcome → List ℕ → ℕ
+nameEndIn (Accepted count) x = nameEnd x 0
+nameEndIn (Refused reason position) x = 0
+
+-- Where it ends by the reader's answer.
+abbrev pub nameEndAfter : Answer → List ℕ → ℕ
+nameEndAfter a x = nameEndIn (a .outcome) x

@@ -13,7 +13,7 @@ use Rattle.answer.specs.declared.Reason.{Reason}
 use Rattle.answer.specs.Answers.{acceptedWith, refusedFor}
 use Rattle.fasta.specs.Bytes.{letterOf}
 use Rattle.fasta.specs.Name.{recordName}
-use Rattle.fasta.specs.Reader.{linesStart, readerAnswer, lettersOf}
+use Rattle.fasta.specs.Reader.{linesStart, nameEndFound, readerAnswer, lettersOf}
 use Rattle.fasta.specs.Rows.{NameEnds, HeaderEnds, sequenceLetters}
 use Rattle.fasta.specs.CheckOrder.{Refuses, Accepts, HasAnswer}
 use Rattle.fasta.specs.Laws.Accepted.{AcceptedInput, reader-accepted}
@@ -54,4 +54,4 @@ pub accepted-name :
     → (p : ℕ) × NameEnds x 0 p × (recordName x 0 ≡ take (p - 1) (drop 1 x))
 accepted-name x places c e =
     let a : AcceptedInput x c = reader-accepted x places c (ap (λ (b : Answer). b .outcome) e) in
-    (a .name-end, a .name, name-bytes (a .name))
+    (nameEndFound x 0, a .name, name-bytes (a .name))

@@ -1,9 +1,9 @@
 // The name of a record. Contracts cite `specs/Name.antt`. Nothing is assumed.
 ghost use mathlib.Core.Path.{_≡_};
-ghost use Prim.Native.Nat.{_+_, _≤_};
+ghost use Prim.Native.Nat.{_≤_};
 ghost use lib.ListN.{length, drop};
 ghost use Rattle.answer.specs.Limits.{maxInput};
-ghost use Rattle.fasta.specs.Name.{nameFrom, nameIn, nameOver};
+ghost use Rattle.fasta.specs.Name.{nameFrom, nameOver};
 use crate::bytes::NameByte;
 use crate::bytes::name_byte_at;
 
@@ -12,8 +12,8 @@ pub const MAX_NAME: usize = 60;
 
 // What is found of a name.
 pub enum Name {
-    // It has 1 to 60 bytes, and it is over.
-    Named,
+    // It has 1 to 60 bytes, and it is over at `end`, past the last of them.
+    Named { end: usize },
     // It is empty, or too long, or the byte at `position` is none of a name's.
     Misnamed { position: u32 },
 }
@@ -25,7 +25,7 @@ fn name_over(at: u32, count: usize) -> Name
     if count == 0 {
         Name::Misnamed { position: at }
     } else {
-        Name::Named
+        Name::Named { end: at as usize }
     }
 }
 
@@ -55,21 +55,4 @@ pub(crate) fn name_from(input: &[u8], from: usize) -> Name
         count += 1;
     }
     name_over(at as u32, count)
-}
-
-// Where the name ends whose bytes start at `from`: past its last byte.
-pub fn name_end(input: &[u8], from: usize) -> usize
-    ensures result { λ r. ⌜ r ≡ from + length (nameIn (drop from (now (input .entry)))) ⌝ }
-{
-    let mut at = from;
-    while at < input.len() {
-        let byte = name_byte_at(input, at);
-        match byte {
-            NameByte::Part => {}
-            NameByte::Past => return at,
-            NameByte::Foreign => return at,
-        }
-        at += 1;
-    }
-    at
 }

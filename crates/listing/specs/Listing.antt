@@ -1,14 +1,12 @@
 -- What the repeat lister prints (document 01, "The FASTA reader and the repeat lister").
 -- Assumes nothing.
-use mathlib.Core.Path.{_≡_}
 use mathlib.Core.List.{List, [], _∷_, _++_}
-use Prim.Native.Nat.{ℕ, _*_}
-use lib.ListN.{length, take}
+use Prim.Native.Nat.{ℕ}
 use Rattle.answer.specs.declared.Outcome.{Outcome}
 use Rattle.answer.specs.declared.Outcome.the-variants.{Accepted, Refused}
 use Rattle.answer.specs.Reasons.{numberOf}
 use Rattle.answer.specs.Limits.{maxLetters}
-use Rattle.array.specs.Calls.{runList, runNumbers}
+use Rattle.array.specs.Calls.{runList}
 use Rattle.fasta.specs.Name.{recordName}
 use Rattle.fasta.specs.Reader.{readerAnswer, recordLetters}
 use Rattle.listing.specs.Decimal.{decimalOf}
@@ -23,11 +21,6 @@ refusalLine n p =
 abbrev pub recordListing : List ℕ → ℕ → List ℕ
 recordListing x p = bedLines (recordName x p) (runList (recordLetters x p))
 
--- The numbers of a run list begin with those of all runs of x, of which there are count.
-pub record HoldsRuns (list x : List ℕ) (count : ℕ) : Type 0 where
-  pub counted : count ≡ length (runList x)
-  pub held : take (3 * count) list ≡ runNumbers x
-
 -- What is printed for the input x by the reader's outcome.
 abbrev pub listingFor : Outcome → List ℕ → List ℕ
 listingFor (Accepted count) x = recordListing x 0
@@ -36,8 +29,3 @@ listingFor (Refused reason position) x = refusalLine (numberOf reason) position
 -- What is printed for the input x.
 abbrev pub listingOf : List ℕ → List ℕ
 listingOf x = listingFor (readerAnswer x maxLetters .outcome) x
-
--- The reader accepts the input x.
-pub record ReaderAccepts (x : List ℕ) : Type 0 where
-  pub count : ℕ
-  pub accepted : readerAnswer x maxLetters .outcome ≡ Accepted count

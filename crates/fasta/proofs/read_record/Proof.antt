@@ -7,8 +7,9 @@ use lib.ListN.{length, drop}
 use Rattle.answer.specs.declared.Outcome.{Outcome}
 use Rattle.answer.specs.Checks.{written, contentIn}
 use Rattle.fasta.specs.Lines.{lettersIn}
-use Rattle.fasta.specs.Reader.{answerFor, recordEnding, lettersOf}
+use Rattle.fasta.specs.Reader.{answerFor, recordEnding, lettersOf, nameEndIn}
 use Rattle.fasta.specs.Laws.Positions.{linesStart-within}
+use Rattle.fasta.specs.Laws.NameBytes.{name-end}
 use Rattle.fasta.specs.Laws.Accepted.{AcceptedInput, accepted-input}
 use borrow.Author.Needs.{needs}
 use Rattle.fasta.proofs.read_record.Statement.{statement}
@@ -16,7 +17,7 @@ use Rattle.fasta.proofs.read_record.Tie as tie
 
 -- The answer is the definition's.
 answered : (c : tie.After-answer-for) → c .answer-for .result ≡ answerFor (recordEnding (c .before .before .before .before .args .input .now) 0)
-answered c = c .answer-for .ensures ∙ ap answerFor (c .before .record-ending .ensures)
+answered c = c .answer-for .ensures ∙ ap answerFor (c .before .record-ending .ensures .0)
 
 -- The input is accepted.
 known : (c : tie.After-enum-told) → AcceptedInput (c .before .before .before .before .before .before .args .input .now) (c .enum-told .given .0 .0)
@@ -36,9 +37,11 @@ enum-told-2 c = search needs
 
 returns : tie.Need-returns
 returns c =
-    let args = c .before .before .before .before .before .before .args in (
+    let args = c .before .before .before .before .before .before .args in
+    let x = args .input .now in
+    let told = c .enum-told2 .given .1 in (
       answered (c .before .before),
-      sym (ap (λ (o : Outcome). contentIn o (lettersOf (args .input .now)) (args .letters .now)) (c .enum-told2 .given .1)),
+      (sym (ap (λ (o : Outcome). contentIn o (lettersOf x) (args .letters .now)) told), sym (ap (λ (o : Outcome). nameEndIn o x) told)),
     )
 
 after-line-requires : tie.Need-after-line-requires
@@ -61,11 +64,15 @@ returns-2 c =
     let start = c .before .before .before .before .before .before .before .before .before .before .before in
     let x = start .args .input .now in
     let b = start .args .letters .now in
-    let told = c .before .before .before .before .before .enum-told .given .1 in (
-      answered (c .before .before .before .before .before .before .before),
-      c .before .before .write-letters .ensures
-          ∙ (ap (λ (q : ℕ). written (lettersIn (drop q x)) b) (c .before .before .before .before .after-line .ensures)
-          ∙ sym (ap (λ (o : Outcome). contentIn o (lettersOf x) b) told)),
+    let accepted = c .before .before .before .before .before in
+    let told = accepted .enum-told .given .1 in (
+      answered (accepted .before .before),
+      (
+        c .before .before .write-letters .ensures
+            ∙ (ap (λ (q : ℕ). written (lettersIn (drop q x)) b) (c .before .before .before .before .after-line .ensures)
+            ∙ sym (ap (λ (o : Outcome). contentIn o (lettersOf x) b) told)),
+        accepted .before .before .before .record-ending .ensures .1 ∙ name-end (known accepted .name) ∙ sym (ap (λ (o : Outcome). nameEndIn o x) told),
+      ),
     )
 
 pub read-record-spec : {M : Type 1} → statement M

@@ -1,40 +1,32 @@
 -- `fasta::record_ending` meets its contract.
 -- Assumes nothing.
 use mathlib.Core.Path.{_≡_, sym, ap, _∙_}
-use mathlib.Core.Bool.{Bool, true, false, cond}
-use mathlib.Core.List.{List}
-use Prim.Native.Nat.{ℕ, suc, _+_}
+use mathlib.Core.Bool.{false}
+use Prim.Native.Nat.{ℕ}
 use native.Mathlib.Omega.{arith}
 use native.Mathlib.Numerals.{add-one}
 use lib.ListN.{drop}
-use Rattle.answer.specs.declared.Reason.the-variants.{NoHeader}
-use Rattle.fasta.specs.declared.lines.Ending.{Ending}
-use Rattle.fasta.specs.declared.lines.Ending.the-variants.{RefusedAt}
 use Rattle.fasta.specs.declared.name.Name.{Name}
-use Rattle.fasta.specs.Bytes.{headerMark, startsWith}
-use Rattle.fasta.specs.Name.{nameFrom}
+use Rattle.fasta.specs.Bytes.{headerMark}
+use Rattle.fasta.specs.Name.{endOf}
 use Rattle.fasta.specs.Lines.{linesFrom}
-use Rattle.fasta.specs.Reader.{nameChecked, linesStart, recordEnding}
+use Rattle.fasta.specs.Reader.{nameChecked, linesStart, recordEnding, nameEndFound}
 use Rattle.fasta.specs.Laws.Positions.{linesStart-within, starts-inside}
 use borrow.Author.Needs.{needs}
 use Rattle.fasta.proofs.record_ending.Statement.{statement}
 use Rattle.fasta.proofs.record_ending.Tie as tie
 
--- How the record ends, where it has a header.
+-- How a record with a header and its name end, by what is found of the name.
 with-header :
-    (x : List ℕ) (p : ℕ) {n : Name} → startsWith headerMark (drop p x) ≡ true → nameFrom (p + 1) 0 (drop (p + 1) x) ≡ n
-    → nameChecked n (linesFrom (linesStart x p) false 0 (drop (linesStart x p) x)) ≡ recordEnding x p
-with-header x p h e =
-    let rest : Ending = linesFrom (linesStart x p) false 0 (drop (linesStart x p) x) in
-    sym
-    (ap (λ (t : Bool). cond t (nameChecked (nameFrom (suc p) 0 (drop (suc p) x)) rest) (RefusedAt NoHeader p)) h
-    ∙ ap (λ (m : Name). nameChecked m rest) (rw (add-one p) at e))
-
--- How it ends, where it has none.
-without-header : (x : List ℕ) (p : ℕ) → startsWith headerMark (drop p x) ≡ false → RefusedAt NoHeader p ≡ recordEnding x p
-without-header x p h =
-    let rest : Ending = linesFrom (linesStart x p) false 0 (drop (linesStart x p) x) in
-    sym (ap (λ (t : Bool). cond t (nameChecked (nameFrom (suc p) 0 (drop (suc p) x)) rest) (RefusedAt NoHeader p)) h)
+    (c : tie.After-name-from) {n : Name} → c .name-from .result ≡ n →
+    let args = c .before .before .before .before .args in
+    let x = args .input .now in
+    let p = args .from in
+    (nameChecked n (linesFrom (linesStart x p) false 0 (drop (linesStart x p) x)) ≡ recordEnding x p) × (endOf n ≡ nameEndFound x p)
+with-header c e =
+    let h = sym (c .before .before .stands-at .ensures) ∙ c .before .if1 .taken in
+    let m = rw (add-one (c .before .before .before .before .args .from)) at (sym (c .name-from .ensures) ∙ e) in
+    (rw (h, m), rw (h, m))
 
 stands-at-requires : tie.Need-stands-at-requires
 stands-at-requires c κs = search needs
@@ -48,44 +40,38 @@ name-from-requires c κs =
     let h = starts-inside headerMark (args .input .now) (args .from) (sym (c .before .stands-at .ensures) ∙ c .if1 .taken) in
     omega arith
 
-enum-told : tie.Need-enum-told
-enum-told c = search needs
+enum-known-name : tie.Need-enum-known-name
+enum-known-name c = search needs
 
 after-line-requires : tie.Need-after-line-requires
 after-line-requires c κs = search needs
 
 lines-from-requires : tie.Need-lines-from-requires
 lines-from-requires c κs =
-    let start = c .before .before .before .before .before .before .before in
+    let start = c .before .before .before .before .before .before .before .before in
     let h = linesStart-within (start .args .input .now) (start .args .from) (start .pre .0) in
     omega (arith, c .after-line .ensures, start .pre .1)
 
-enum-known-name : tie.Need-enum-known-name
-enum-known-name c = search needs
+enum-known-name-2 : tie.Need-enum-known-name-2
+enum-known-name-2 c = search needs
 
-cast-t12 : tie.Need-cast-t12
-cast-t12 c = search needs
+cast-t15 : tie.Need-cast-t15
+cast-t15 c = search needs
 
 returns : tie.Need-returns
 returns c =
-    let args = c .before .before .before .before .before .before .before .before .args in
-    c .lines-from .ensures
-    ∙ (ap (λ (q : ℕ). linesFrom q false 0 (drop q (args .input .now))) (c .before .after-line .ensures)
-    ∙ with-header (args .input .now) (args .from)
-    (sym (c .before .before .before .before .before .before .stands-at .ensures) ∙ c .before .before .before .before .before .if1 .taken)
-    (sym (c .before .before .before .before .name-from .ensures) ∙ c .before .before .enum-told .given .1))
+    let named = c .before .before .before in
+    let x = named .before .before .before .before .before .before .args .input .now in
+    let ends = with-header (named .before .before) (named .name .given .1) in
+    (c .lines-from .ensures ∙ ap (λ (q : ℕ). linesFrom q false 0 (drop q x)) (c .before .after-line .ensures) ∙ ends .0, ends .1)
 
 returns-2 : tie.Need-returns-2
-returns-2 c =
-    let args = c .before .before .before .before .before .before .before .args in
-    with-header (args .input .now) (args .from)
-    (sym (c .before .before .before .before .before .stands-at .ensures) ∙ c .before .before .before .before .if1 .taken)
-    (sym (c .before .before .before .name-from .ensures) ∙ c .before .name .given .1)
+returns-2 c = with-header (c .before .before .before) (c .before .name2 .given .1)
 
 returns-3 : tie.Need-returns-3
 returns-3 c =
-    let args = c .before .before .before .args in
-    without-header (args .input .now) (args .from) (sym (c .before .stands-at .ensures) ∙ c .if1 .left)
+    let h = sym (c .before .stands-at .ensures) ∙ c .if1 .left in
+    (rw h, rw h)
 
 pub record-ending-spec : {M : Type 1} → statement M
 record-ending-spec =
@@ -94,11 +80,11 @@ record-ending-spec =
     stands-at-requires
     add-name-from
     name-from-requires
-    enum-told
+    enum-known-name
     after-line-requires
     lines-from-requires
-    enum-known-name
-    cast-t12
+    enum-known-name-2
+    cast-t15
     returns
     returns-2
     returns-3)

@@ -17,10 +17,8 @@ use Rattle.answer.specs.Limits.{maxLetters, maxInput}
 use Rattle.fasta.specs.declared.lines.Ending.{Ending}
 use Rattle.fasta.specs.declared.lines.Ending.the-variants.{RefusedAt, NextRecord, Finished}
 use Rattle.fasta.specs.Bytes.{letterOf}
-use Rattle.fasta.specs.Name.{maxName, recordName}
-use Rattle.fasta.specs.Reader.{recordEnding, answerFor, readerAnswer, lettersOf}
+use Rattle.fasta.specs.Reader.{recordEnding, nameEndFound, answerFor, readerAnswer, lettersOf}
 use Rattle.fasta.specs.Rows.{NameEnds, sequenceLetters, in-lines}
-use Rattle.fasta.specs.Laws.NameBytes.{name-length}
 use Rattle.fasta.specs.Laws.LineRows.{letters-most}
 use Rattle.fasta.specs.Laws.HeaderLine.{record-letters}
 use Rattle.fasta.specs.Laws.RecordRows.{line-pass, ReadToEnd, RecordSays, record-says}
@@ -30,10 +28,7 @@ pub record AcceptedInput (x : List ℕ) (count : ℕ) : Type 0 where
   pub letters : length (lettersOf x) ≡ count
   pub some : 0 < count
   pub most : count ≤ maxLetters
-  pub name-end : ℕ
-  pub name : NameEnds x 0 name-end
-  pub name-some : 0 < length (recordName x 0)
-  pub name-most : length (recordName x 0) ≤ maxName
+  pub name : NameEnds x 0 (nameEndFound x 0)
 
 -- An ending that is accepted is the input's end, after some letters.
 finished-accepted :
@@ -51,8 +46,8 @@ finished-accepted (Finished n p) count h = go (eqb n 0) refl h
         (p, ap (λ (m : ℕ). Finished m p) z, omega arith)
 
 -- An input whose record is read to its end has not too many letters.
-whole-most : {x : List ℕ} {c q : ℕ} → ReadToEnd x 0 c q → c ≤ maxLetters
-whole-most {x} {c} w =
+whole-most : {x : List ℕ} {n c q : ℕ} → ReadToEnd x 0 n c q → c ≤ maxLetters
+whole-most {x} w =
     let m : length (sequenceLetters (take (length x) x) (w .header-end)) ≤ maxLetters =
     letters-most x (w .header-end) (length x) (omega arith) (λ k h r l. w .no-earlier r k (omega (arith, line-pass l)) (in-lines (w .ends) l)) in
     let n : length (sequenceLetters x (w .header-end)) ≤ maxLetters =
@@ -63,7 +58,7 @@ whole-most {x} {c} w =
 pub accepted-input : (x : List ℕ) (count : ℕ) → answerFor (recordEnding x 0) .outcome ≡ Accepted count → AcceptedInput x count
 accepted-input x count h =
     let f : (q : ℕ) × (recordEnding x 0 ≡ Finished count q) × (0 < count) = finished-accepted (recordEnding x 0) count h in
-    let w : ReadToEnd x 0 count (f .0) = subst (RecordSays x 0) (f .1) (record-says x 0 (omega arith)) in
+    let w : ReadToEnd x 0 (nameEndFound x 0) count (f .0) = subst (RecordSays x 0 (nameEndFound x 0)) (f .1) (record-says x 0 (omega arith)) in
     record {
       letters =
           ap length (record-letters x 0 (w .header-end) (omega arith) (w .ends))
@@ -71,10 +66,7 @@ accepted-input x count h =
           ∙ sym (w .counted);
       some = f .2;
       most = whole-most w;
-      name-end = w .name-end;
       name = w .name;
-      name-some = omega (arith, name-length (w .name), w .name .some);
-      name-most = omega (arith, name-length (w .name), w .name .most);
     }
 
 -- What is known of an input that the reader accepts.

@@ -15,7 +15,7 @@ use Rattle.answer.specs.Checks.{refusedIf}
 use Rattle.answer.specs.Limits.{maxLetters, maxInput}
 use Rattle.fasta.specs.declared.lines.Ending.{Ending}
 use Rattle.fasta.specs.declared.lines.Ending.the-variants.{RefusedAt, NextRecord, Finished}
-use Rattle.fasta.specs.Reader.{recordEnding, answerFor, readerAnswer}
+use Rattle.fasta.specs.Reader.{recordEnding, nameEndFound, answerFor, readerAnswer}
 use Rattle.fasta.specs.Rows.{sequenceLetters, RecordRow, no-letters, Row, short-buffer, long-input, in-record}
 use Rattle.fasta.specs.CheckOrder.{EarlierCheck, FirstOf, Refuses, Accepts, HasAnswer}
 use Rattle.fasta.specs.Laws.RecordRows.{earlier-pass, earlier-position, record-pass, last-only, ReadToEnd, RecordSays, record-says}
@@ -54,7 +54,7 @@ module _ (x : List ℕ) (places : ℕ) where
     record-first f = record { holds = in-record (f .holds); no-earlier = λ r p h. record-only (f .no-earlier r p h) }
 
     -- Refusal 13.
-    none-first : {c p : ℕ} → ReadToEnd x 0 c p → c ≡ 0 → FirstOf (RecordRow x 0) NoLetters (length x)
+    none-first : {n c p : ℕ} → ReadToEnd x 0 n c p → c ≡ 0 → FirstOf (RecordRow x 0) NoLetters (length x)
     none-first w z =
         record {
           holds = no-letters (w .ends) (no-length (sequenceLetters x (w .header-end)) (omega (arith, w .counted)));
@@ -62,14 +62,14 @@ module _ (x : List ℕ) (places : ℕ) where
         }
 
     -- No row at all.
-    accepts : {c p : ℕ} → ReadToEnd x 0 c p → ¬ (c ≡ 0) → Accepts x places c
+    accepts : {n c p : ℕ} → ReadToEnd x 0 n c p → ¬ (c ≡ 0) → Accepts x places c
     accepts w n =
         record { no-row = λ r p. record-only (λ k. n (last-only w k .2)); header-end = w .header-end; ends = w .ends; counted = w .counted }
 
-    answer-says : (e : Ending) → RecordSays x 0 e → HasAnswer x places (answerFor e)
-    answer-says (RefusedAt r p) f = record-first f
-    answer-says (NextRecord c p) f = record-first f
-    answer-says (Finished c p) w = go (eqb c 0) refl
+    answer-says : (n : ℕ) (e : Ending) → RecordSays x 0 n e → HasAnswer x places (answerFor e)
+    answer-says n (RefusedAt r p) f = record-first f
+    answer-says n (NextRecord c p) f = record-first f
+    answer-says n (Finished c p) w = go (eqb c 0) refl
       where
         go : (t : Bool) → eqb c 0 ≡ t → HasAnswer x places (refusedIf t NoLetters p (acceptedWith c))
         go true h =
@@ -87,4 +87,4 @@ module _ (x : List ℕ) (places : ℕ) where
       go true t h i = short-first (ltb-true places maxLetters h)
       go false true h i = long-first (ltb-false places maxLetters h) (ltb-true maxInput (length x) i)
       go false false h i =
-          answer-says (ltb-false places maxLetters h) (ltb-false maxInput (length x) i) (recordEnding x 0) (record-says x 0 (omega arith))
+          answer-says (ltb-false places maxLetters h) (ltb-false maxInput (length x) i) (nameEndFound x 0) (recordEnding x 0) (record-says x 0 (omega arith))

@@ -1,7 +1,7 @@
 -- The name of a record is what stands between its '>' and the position where it ends.
 -- Assumes nothing.
 use mathlib.Core.Path.{_≡_, refl, sym, ap, _∙_}
-use mathlib.Core.List.{List, []}
+use mathlib.Core.List.{List, [], _∷_}
 use Prim.Native.Nat.{ℕ, zero, suc, _+_, _-_, _≤_, _<_}
 use native.Mathlib.Omega.{arith}
 use native.Mathlib.Decide.{decLt}
@@ -11,11 +11,21 @@ use Rattle.fasta.specs.declared.bytes.NameByte.{NameByte}
 use Rattle.fasta.specs.declared.bytes.NameByte.the-variants.{Part, Past, Foreign}
 use Rattle.fasta.specs.Bytes.{nameByteOf}
 use Rattle.fasta.specs.Classes.{InName}
-use Rattle.fasta.specs.Name.{nameBefore, nameIn, recordName}
+use Rattle.fasta.specs.Name.{nameBefore, nameIn, recordName, nameEnd}
 use Rattle.fasta.specs.Rows.{NameOver, NameEnds}
 use Rattle.fasta.specs.Laws.Classes.{NameByteSays, name-byte-says, in-name-goes-on}
-use Rattle.fasta.specs.Laws.Names.{name-first}
 use Rattle.fasta.specs.Laws.NameRows.{in-name-not-over}
+
+-- The bytes of the name that begins s are its first.
+name-first : (s : List ℕ) → take (length (nameIn s)) s ≡ nameIn s
+name-first [] = refl
+name-first (b ∷ s) = go (nameByteOf b) (name-first s)
+  where
+    go : (k : NameByte) → take (length (nameIn s)) s ≡ nameIn s
+        → take (length (nameBefore k b (nameIn s))) (b ∷ s) ≡ nameBefore k b (nameIn s)
+    go Part h = ap (λ (l : List ℕ). b ∷ l) h
+    go Past h = refl
+    go Foreign h = refl
 
 module _ (x : List ℕ) (p : ℕ) (within : p ≤ length x) (over : NameOver x p) where
   -- Where a name is over, no byte of it is left.
@@ -50,10 +60,13 @@ module _ (x : List ℕ) (p : ℕ) (within : p ≤ length x) (over : NameOver x p
       byte Foreign n e = absurd (n .0 here)
 
 -- A name that ends at p has the bytes between the '>' at s and p.
-pub name-length : {x : List ℕ} {s p : ℕ} → NameEnds x s p → length (recordName x s) ≡ p - suc s
+name-length : {x : List ℕ} {s p : ℕ} → NameEnds x s p → length (recordName x s) ≡ p - suc s
 name-length {x} {s} {p} n =
     let h : suc s < p = n .some in
     bytes-left x p (n .up-to .within) (n .over) (p - suc s) (suc s) (omega arith) (λ k l m. n .up-to .bytes k l m)
+
+pub name-end : {x : List ℕ} {s p : ℕ} → NameEnds x s p → p ≡ nameEnd x s
+name-end n = omega (arith, name-length n, n .some)
 
 pub name-bytes : {x : List ℕ} {s p : ℕ} → NameEnds x s p → recordName x s ≡ take (p - suc s) (drop (suc s) x)
 name-bytes {x} {s} {p} n = sym (name-first (drop (suc s) x)) ∙ ap (λ (k : ℕ). take k (drop (suc s) x)) (name-length n)

@@ -28,7 +28,7 @@ NameRow x s p = NameUpTo x s p × BadNameAt x s p
 
 -- What is found of the name behind the '>' at s.
 abbrev pub NameSays : List ℕ → ℕ → Name → Type 0
-NameSays x s Named = (p : ℕ) × NameEnds x s p
+NameSays x s (Named p) = NameEnds x s p
 NameSays x s (Misnamed p) = NameRow x s p × ((k : ℕ) → k < p → ¬ NameRow x s k)
 
 -- A byte of a name is not where it is over.
@@ -75,12 +75,12 @@ pub record NameReached (x : List ℕ) (s p count : ℕ) : Type 0 where
 over-says : (x : List ℕ) (s p count : ℕ) → NameReached x s p count → NameOver x p → NameSays x s (nameOver p count)
 over-says x s p count at over = go (eqb count 0) refl
   where
-    go : (t : Bool) → eqb count 0 ≡ t → NameSays x s (cond t (Misnamed p) Named)
+    go : (t : Bool) → eqb count 0 ≡ t → NameSays x s (cond t (Misnamed p) (Named p))
     go true h = ((at .up-to, empty (omega (arith, at .place, eqb-true count 0 h)) over), at .clean)
     go false h =
         let n : ¬ (count ≡ 0) = eqb-false count 0 h in
         let e : p ≡ suc s + count = at .place in
-        (p, record { up-to = at .up-to; over = over; some = omega arith; most = omega (arith, at .most) })
+        record { up-to = at .up-to; over = over; some = omega arith; most = omega (arith, at .most) }
 
 module _ (x : List ℕ) (s p count : ℕ) (within : p < length x) (at : NameReached x s p count)
     (rest : NameReached x s (suc p) (suc count) → NameSays x s (nameFrom (suc p) (suc count) (drop (suc p) x))) where

@@ -14,9 +14,9 @@ use Rattle.fasta.specs.declared.name.Name.the-variants.{Named, Misnamed}
 use Rattle.fasta.specs.declared.lines.Ending.{Ending}
 use Rattle.fasta.specs.declared.lines.Ending.the-variants.{RefusedAt, NextRecord, Finished}
 use Rattle.fasta.specs.Bytes.{headerMark, startsWith}
-use Rattle.fasta.specs.Name.{nameFrom}
+use Rattle.fasta.specs.Name.{nameFrom, endOf}
 use Rattle.fasta.specs.Lines.{linesFrom}
-use Rattle.fasta.specs.Reader.{nameChecked, linesStart, recordEnding}
+use Rattle.fasta.specs.Reader.{nameChecked, linesStart, recordEnding, nameEndFound}
 use Rattle.fasta.specs.Rows.{Stands, NameEnds, HeaderEnds, sequenceLetters, LineRow, unfit-byte, second-record, letter-too-many}
 use Rattle.fasta.specs.Rows.{RecordRow, no-header, bad-name, in-lines, no-letters}
 use Rattle.fasta.specs.CheckOrder.{passOf, EarlierCheck, by-pass, by-position, FirstOf}
@@ -48,30 +48,29 @@ record-pass (bad-name u b) = omega arith
 record-pass (in-lines h l) = omega (arith, line-pass l)
 record-pass (no-letters h n) = omega arith
 
--- A record that is read to the input's end p, with its name and c letters: no row but the last can be given.
-pub record ReadToEnd (x : List ℕ) (s c p : ℕ) : Type 0 where
+-- A record that is read to the input's end p, with its name, which ends at n, and c letters: no row but the last can be given.
+pub record ReadToEnd (x : List ℕ) (s n c p : ℕ) : Type 0 where
   pub place : p ≡ length x
   pub no-earlier : (r : Reason) (k : ℕ) → passOf r < passOf NoLetters → ¬ RecordRow x s r k
-  pub name-end : ℕ
-  pub name : NameEnds x s name-end
+  pub name : NameEnds x s n
   pub header-end : ℕ
   pub ends : HeaderEnds x s header-end
   pub counted : c ≡ length (sequenceLetters x header-end)
 
 -- Where a record is read to the end, the only row is the last, and it is one where there is no letter.
 pub last-only :
-    {x : List ℕ} {s c p k : ℕ} {r : Reason} → ReadToEnd x s c p → RecordRow x s r k → (k ≡ length x) × (passOf r ≡ passOf NoLetters) × (c ≡ 0)
+    {x : List ℕ} {s n c p k : ℕ} {r : Reason} → ReadToEnd x s n c p → RecordRow x s r k → (k ≡ length x) × (passOf r ≡ passOf NoLetters) × (c ≡ 0)
 last-only {k = k} {r = r} w (no-header m) = absurd (w .no-earlier r k (omega arith) (no-header m))
 last-only {k = k} {r = r} w (bad-name u b) = absurd (w .no-earlier r k (omega arith) (bad-name u b))
 last-only {k = k} {r = r} w (in-lines i l) = absurd (w .no-earlier r k (omega (arith, line-pass l)) (in-lines i l))
 last-only {x} w (no-letters i m) =
     (refl, refl, w .counted ∙ ap (λ (e : ℕ). length (sequenceLetters x e)) (header-unique (w .ends) i) ∙ ap length m)
 
--- What an end of a record says of its rows.
-abbrev pub RecordSays : List ℕ → ℕ → Ending → Type 0
-RecordSays x s (RefusedAt r p) = FirstOf (RecordRow x s) r p
-RecordSays x s (NextRecord c p) = FirstOf (RecordRow x s) SecondRecord p
-RecordSays x s (Finished c p) = ReadToEnd x s c p
+-- What an end of a record says of its rows, where the name is found to end at n.
+abbrev pub RecordSays : List ℕ → ℕ → ℕ → Ending → Type 0
+RecordSays x s n (RefusedAt r p) = FirstOf (RecordRow x s) r p
+RecordSays x s n (NextRecord c p) = FirstOf (RecordRow x s) SecondRecord p
+RecordSays x s n (Finished c p) = ReadToEnd x s n c p
 
 module _ (x : List ℕ) (s : ℕ) where
   -- Refusal 9.
@@ -115,12 +114,11 @@ module _ (x : List ℕ) (s : ℕ) where
         }
 
     -- None of them.
-    lines-whole : {q c : ℕ} → q ≡ length x → CleanTo x e q → c ≡ length (sequenceLetters (take q x) e) → ReadToEnd x s c q
+    lines-whole : {q c : ℕ} → q ≡ length x → CleanTo x e q → c ≡ length (sequenceLetters (take q x) e) → ReadToEnd x s n c q
     lines-whole place clean counted =
         record {
           place = place;
           no-earlier = λ r p. lines-none (λ w. clean p (omega (arith, row-in-lines w)) r w);
-          name-end = n;
           name = name;
           header-end = e;
           ends = ends;
@@ -128,26 +126,26 @@ module _ (x : List ℕ) (s : ℕ) where
         }
 
     -- What the lines say.
-    lines-record : (end : Ending) → EndingSays x e end → RecordSays x s end
+    lines-record : (end : Ending) → EndingSays x e end → RecordSays x s n end
     lines-record (RefusedAt r p) h = lines-first (h .0) (h .1)
     lines-record (NextRecord c p) h = lines-first (h .0) (h .1)
     lines-record (Finished c p) h = lines-whole (h .0) (h .1) (h .2)
 
 -- How the record ends that starts at s.
-pub record-says : (x : List ℕ) (s : ℕ) → s ≤ length x → RecordSays x s (recordEnding x s)
+pub record-says : (x : List ℕ) (s : ℕ) → s ≤ length x → RecordSays x s (nameEndFound x s) (recordEnding x s)
 record-says x s h = go (startsWith headerMark (drop s x)) (start-says x s headerMark)
   where
     lines : LinesBegin x s (linesStart x s)
     lines = lines-begin x s h
 
     named : Stands x s headerMark → (n : Name) → NameSays x s n
-        → RecordSays x s (nameChecked n (linesFrom (linesStart x s) false 0 (drop (linesStart x s) x)))
-    named b Named n =
-        lines-record x s b (n .1) (lines .ends) (linesFrom (linesStart x s) false 0 (drop (linesStart x s) x)) (header-lines-say lines)
+        → RecordSays x s (endOf n) (nameChecked n (linesFrom (linesStart x s) false 0 (drop (linesStart x s) x)))
+    named b (Named p) name =
+        lines-record x s b name (lines .ends) (linesFrom (linesStart x s) false 0 (drop (linesStart x s) x)) (header-lines-say lines)
     named b (Misnamed p) row = name-first x s b (row .0) (row .1)
 
     go : (t : Bool) → StartSays x s headerMark t
-        → RecordSays x s
+        → RecordSays x s (cond t (endOf (nameFrom (suc s) 0 (drop (suc s) x))) 0)
         (cond t (nameChecked (nameFrom (suc s) 0 (drop (suc s) x)) (linesFrom (linesStart x s) false 0 (drop (linesStart x s) x)))
         (RefusedAt NoHeader s))
     go true b =

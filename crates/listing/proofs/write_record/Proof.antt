@@ -1,61 +1,91 @@
--- `listing::write_record` meets its contract: the part of the input up to the name's end is the name.
+-- `listing::write_record` meets its contract: the run call accepts the letters, its list holds their runs, and there is room for their lines.
 -- Assumes nothing.
-use mathlib.Core.Path.{_≡_, ap}
-use Prim.Native.Nat.{_+_, _-_}
+use mathlib.Core.Path.{_≡_, ap, _∙_}
+use mathlib.Core.List.{List}
+use Prim.Native.Nat.{ℕ, _≤_, _<_}
 use native.Mathlib.Omega.{arith}
-use lib.ListN.{length, take, drop, length-drop}
-use Rattle.fasta.specs.Name.{recordName}
-use Rattle.fasta.specs.Laws.Names.{name-within, name-part}
+use lib.ListN.{length}
+use Rattle.answer.specs.declared.Answer.{Answer}
+use Rattle.answer.specs.Answers.{acceptedWith, value}
+use Rattle.answer.specs.Checks.{written, contentAfter}
+use Rattle.answer.specs.CheckLaws.{runs-passes}
+use Rattle.answer.specs.ContentLaws.{written-as}
+use Rattle.answer.specs.Limits.{maxLetters, runListLength, workLength}
+use Rattle.array.specs.Calls.{runList, runNumbers, runsAnswer}
+use Rattle.listing.specs.Bed.{bedLines}
+use Rattle.listing.specs.Laws.Listing.{entries-held, runs-within}
 use borrow.Author.Needs.{needs}
 use Rattle.listing.proofs.write_record.Statement.{statement}
 use Rattle.listing.proofs.write_record.Tie as tie
 
-add-start : tie.Need-add-start
-add-start c = search needs
+-- The runs of a text that the reader hands on are found.
+runs-found :
+    (x : List ℕ) (work list : ℕ) → 0 < length x → length x ≤ maxLetters → workLength maxLetters ≤ work → list ≡ runListLength maxLetters
+    → runsAnswer x work list ≡ acceptedWith (length (runList x))
+runs-found x work list h k v w =
+    runs-passes (length x) (record { some = h; short = omega arith }) _ list work (omega arith) (omega arith)
 
--- The part of the input is the name.
-named :
-    (c : tie.After-name-end) →
-    let args = c .before .before .before .before .args in
-    take (c .name-end .result - (args .from + 1)) (drop (args .from + 1) (args .input .now)) ≡ recordName (args .input .now) (args .from)
-named c = let args = c .before .before .before .before .args in name-part (args .input .now) (args .from) (c .name-end .result) (c .name-end .ensures)
+-- The run call accepts.
+found :
+    (c : tie.After-runs) →
+    c .runs .result ≡ acceptedWith (length (runList (c .before .before .before .before .before .before .before .before .args .letters .now)))
+found c =
+    let start = c .before .before .before .before .before .before .before .before in
+    let fits = start .pre .1 in
+    c .runs .ensures .0 ∙ runs-found (start .args .letters .now) _ _ (fits .0) (fits .1 .0) (fits .1 .1 .0) (fits .1 .1 .1 .0)
 
-name-end-requires : tie.Need-name-end-requires
-name-end-requires c κs = search needs
+-- Their numbers are in its list.
+held :
+    (c : tie.After-runs) →
+    let args = c .before .before .before .before .before .before .before .before .args in
+    c .runs .last .1 .1 .0 ≡ written (runNumbers (args .letters .now)) (args .list .now)
+held c =
+    let args = c .before .before .before .before .before .before .before .before .args in
+    c .runs .ensures .1 .0 ∙ ap (λ (a : Answer). contentAfter a (runNumbers (args .letters .now)) (args .list .now)) (found c)
 
-sub-name : tie.Need-sub-name
-sub-name c = search needs
+runs-requires : tie.Need-runs-requires
+runs-requires c κs = search needs
 
-part-name-start : tie.Need-part-name-start
-part-name-start c = search needs
+value-requires : tie.Need-value-requires
+value-requires c κs = search needs
 
-part-name-end : tie.Need-part-name-end
-part-name-end c =
-    let start = c .before .before .before .before in
-    let x = start .args .input .now in
-    let p = start .args .from + 1 in
-    omega (arith, c .name-end .ensures, name-within (drop p x), length-drop p x, start .pre .0)
+cast-count : tie.Need-cast-count
+cast-count c = search needs
 
 write-lines-requires : tie.Need-write-lines-requires
 write-lines-requires c κs =
-    let start = c .before .before .before .before .before .before in
-    (omega (arith, ap length (named (c .before .before)), start .pre .1 .0), (start .pre .1 .1 .0, start .pre .1 .1 .1))
+    let start = c .before .before .before .before .before .before .before .before .before .before .before .before .before .before .before in
+    let runs = c .before .before .before .before .before .before .before in
+    let count = c .before .before .value .ensures ∙ ap value (found runs) in
+    let within = runs-within (start .args .letters .now) _ (start .args .list .now) _ count (held runs) in
+    (start .pre .0, (within, omega (arith, within, runs .runs .kept .1 .1 .0, start .pre .1 .1 .1 .1)))
 
 same-length : tie.Need-same-length
 same-length c = search needs
 
+same-length-2 : tie.Need-same-length-2
+same-length-2 c = search needs
+
+same-length-3 : tie.Need-same-length-3
+same-length-3 c = search needs
+
 returns : tie.Need-returns
-returns c = rw (named (c .before .before .before .before .before)) at (c .before .before .write-lines .ensures)
+returns c =
+    let args = c .before .before .before .before .before .before .before .before .before .before .before .before .before .before .before .before .before .before .args in
+    let runs = c .before .before .before .before .before .before .before .before .before .before in
+    let count = c .before .before .before .before .before .value .ensures ∙ ap value (found runs) in
+    written-as (c .before .before .write-lines .ensures)
+    (ap (bedLines (args .name .now)) (entries-held (args .letters .now) _ (args .list .now) _ count (held runs)))
 
 pub write-record-spec : {M : Type 1} → statement M
 write-record-spec =
     tie.close
     (tie.spec
-    add-start
-    name-end-requires
-    sub-name
-    part-name-start
-    part-name-end
+    runs-requires
+    value-requires
+    cast-count
     write-lines-requires
     same-length
+    same-length-2
+    same-length-3
     returns)

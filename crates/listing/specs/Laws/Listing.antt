@@ -1,13 +1,13 @@
 -- What is printed, by the reader's answer and the run list.
 -- Assumes nothing.
-use mathlib.Core.Path.{_≡_, refl, sym, ap, _∙_}
+use mathlib.Core.Path.{_≡_, refl, sym, ap, ap₂, _∙_}
 use mathlib.Core.List.{List, [], _∷_, _++_}
 use Prim.Native.Nat.{ℕ, suc, _*_, _≤_, _<_}
 use native.Mathlib.Omega.{arith}
 use native.Mathlib.Decide.{decLt}
 use borrow.Author.Tests.{lt-ltb}
-use lib.ListN.{length, take, drop, take-append-drop, length-take}
-use lib.Seq.{take-at, take-all}
+use lib.ListN.{length, take, drop, length-take, length-append}
+use lib.Seq.{take-all}
 use Rattle.words.specs.Runs.{Entry, numbers}
 use Rattle.words.specs.Laws.Runs.{numbers-length}
 use Rattle.answer.specs.declared.Reason.{Reason}
@@ -20,38 +20,23 @@ use Rattle.answer.specs.Limits.{maxLetters, maxInput}
 use Rattle.array.specs.Calls.{runList, runNumbers}
 use Rattle.fasta.specs.Reader.{readerAnswer}
 use Rattle.listing.specs.Bed.{entriesOf}
-use Rattle.listing.specs.Listing.{refusalLine, recordListing, HoldsRuns, listingFor, listingOf}
+use Rattle.listing.specs.Listing.{refusalLine, recordListing, listingFor, listingOf}
 
 -- The runs are read back from their numbers.
 entries-numbers : (rs : List Entry) (rest : List ℕ) → entriesOf (length rs) (numbers rs ++ rest) ≡ rs
 entries-numbers [] rest = refl
 entries-numbers (r ∷ rs) rest = ap (λ (l : List Entry). r ∷ l) (entries-numbers rs rest)
 
-module _ (list x : List ℕ) (count : ℕ) (h : HoldsRuns list x count) where
-  -- The runs are read back from a list that holds them.
+-- In a buffer into which all runs of x were written, of which there are count,
+module _ (x list before : List ℕ) (count : ℕ) (counted : count ≡ length (runList x)) (held : list ≡ written (runNumbers x) before) where
+  -- they are read back,
   pub entries-held : entriesOf count list ≡ runList x
-  entries-held =
-      let rs : List Entry = runList x in
-      let e : list ≡ numbers rs ++ drop (3 * count) list = sym (take-append-drop (3 * count) list) ∙ ap (λ (l : List ℕ). l ++ drop (3 * count) list) (h .held) in
-      ap (λ (k : ℕ). entriesOf k list) (h .counted)
-      ∙ (ap (entriesOf (length rs)) e ∙ entries-numbers rs (drop (3 * count) list))
+  entries-held = ap₂ entriesOf counted held ∙ entries-numbers (runList x) (drop (length (runNumbers x)) before)
 
-  -- They have their place in it.
+  -- and have their place.
   pub runs-within : 3 * count ≤ length list
   runs-within =
-      let rs : List Entry = runList x in
-      omega (arith, numbers-length rs, h .counted, ap length (h .held), length-take (3 * count) list)
-
--- A buffer into which all runs of x were written holds them.
-pub holds-written :
-    (before x : List ℕ) (count : ℕ) → count ≡ length (runList x)
-    → HoldsRuns (written (runNumbers x) before) x count
-holds-written before x count e =
-    let rs : List Entry = runList x in
-    record {
-      counted = e;
-      held = take-at (numbers rs) (drop (length (numbers rs)) before) (3 * count) (omega (arith, numbers-length rs));
-    }
+      omega (arith, counted, ap length held, length-append (runNumbers x) (drop (length (runNumbers x)) before), numbers-length (runList x))
 
 -- What is printed for an accepted input.
 pub listing-accepted : (x : List ℕ) (count : ℕ) → readerAnswer x maxLetters .outcome ≡ Accepted count → listingOf x ≡ recordListing x 0

@@ -1,18 +1,19 @@
--- `fasta::read` meets its contract: the checks give the answer, and the record is read where they pass.
+-- `fasta::read_named` meets its contract: the checks give the answer, and the record is read where they pass.
 -- Assumes nothing.
-use mathlib.Core.Path.{sym, _∙_}
+use mathlib.Core.Path.{sym, ap, _∙_}
 use borrow.Author.Tests.{ltb-false}
 use lib.Dec.{ltb}
 use lib.ListN.{length}
+use Rattle.answer.specs.declared.Answer.{Answer}
 use Rattle.answer.specs.declared.Reason.the-variants.{FileTooLong}
 use Rattle.answer.specs.Answers.{acceptedWith}
 use Rattle.answer.specs.AfterLaws.{content-refused}
 use Rattle.answer.specs.CheckLaws.{then, passing, failing, if-cleared, output-cleared}
 use Rattle.answer.specs.Limits.{maxLetters, maxInput}
+use Rattle.fasta.specs.Reader.{sizeChecked, nameEndAfter}
 use borrow.Author.Needs.{needs}
-use Rattle.fasta.specs.Reader.{sizeChecked}
-use Rattle.fasta.proofs.read.Statement.{statement}
-use Rattle.fasta.proofs.read.Tie as tie
+use Rattle.fasta.proofs.read_named.Statement.{statement}
+use Rattle.fasta.proofs.read_named.Tie as tie
 
 output-requires : tie.Need-output-requires
 output-requires c κs = search needs
@@ -46,7 +47,7 @@ returns : tie.Need-returns
 returns c =
     let last = c .before .before .before .before in (
       c .refused .ensures ∙ sym (failing (then (last .before .output .ensures) (last .refuse-if .ensures)) _ (c .before .before .c .given .1)),
-      search content-refused,
+      (search content-refused, sym (ap (λ (a : Answer). nameEndAfter a (last .before .before .before .before .args .input .now)) (c .refused .ensures))),
     )
 
 same-length : tie.Need-same-length
@@ -61,8 +62,8 @@ returns-2 c =
       read .read-record .ensures .1,
     )
 
-pub read-spec : {M : Type 1} → statement M
-read-spec =
+pub read-named-spec : {M : Type 1} → statement M
+read-named-spec =
     tie.close
     (tie.spec
     output-requires
