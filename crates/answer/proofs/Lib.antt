@@ -1,2 +1,2 @@
 pub mod Quotients
-pub mod Ladders
+pub mod CallChecks

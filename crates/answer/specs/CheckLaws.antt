@@ -10,13 +10,13 @@ use Rattle.answer.specs.declared.Answer.{Answer}
 use Rattle.answer.specs.declared.Outcome.{Outcome}
 use Rattle.answer.specs.declared.Outcome.the-variants.{Accepted, Refused}
 use Rattle.answer.specs.declared.Reason.{Reason}
-use Rattle.answer.specs.declared.Reason.the-variants.{EmptyText, TextTooLong, UnknownOrder, ShortOutput, ShortWork}
+use Rattle.answer.specs.declared.Reason.the-variants.{EmptyText, TextTooLong, UnknownOrder, ShortOutput, ShortWork, FileTooLong}
 use Rattle.answer.specs.declared.checks.Check.{Check}
 use Rattle.answer.specs.declared.checks.Check.the-variants.{Passed, Failed}
 use Rattle.answer.specs.Answers.{acceptedWith, refusedFor}
 use Rattle.answer.specs.AcceptedContent.{Sized}
-use Rattle.answer.specs.Limits.{maxLength, runListLength, workLength}
-use Rattle.answer.specs.Checks.{refusedIf, limitChecked, lengthChecked, orderChecked, outputChecked, workChecked, textChecked, orderedTextChecked, forestChecked, runsChecked, answerTo, Adds}
+use Rattle.answer.specs.Limits.{maxLength, maxLetters, maxInput, runListLength, workLength}
+use Rattle.answer.specs.Checks.{refusedIf, limitChecked, lengthChecked, orderChecked, outputChecked, workChecked, inputChecked, textChecked, orderedTextChecked, forestChecked, runsChecked, readerChecked, answerTo, Adds}
 
 -- A check, and then another.
 pub then : {earlier mid now : Check} {check further : Answer → Answer} → Adds earlier mid check → Adds mid now further →
@@ -32,9 +32,9 @@ module _ {now : Check} {check : Answer → Answer} (all : Adds Passed now check)
   pub failing : {reason : Reason} {position : ℕ} → now ≡ Failed reason position → check rest ≡ refusedFor reason position
   failing e = sym (all .answer rest) ∙ ap (λ (c : Check). answerTo c rest) e
 
-refused-apart : (reason : Reason) (position : ℕ) → ¬ (refusedFor reason position ≡ acceptedWith 0)
-refused-apart reason position e =
-    let o : Refused reason position ≡ Accepted 0 = ap (λ (a : Answer). a .outcome) e in
+-- No outcome is both accepted and refused.
+pub accepted-apart : {count position : ℕ} {reason : Reason} → ¬ (Accepted count ≡ Refused reason position)
+accepted-apart e =
     let z : _≡_ {A = ℕ} 0 1 = cc in
     omega arith
 
@@ -42,7 +42,7 @@ refused-apart reason position e =
 module _ (rest : Answer) where
   pub if-cleared : (fails : Bool) (reason : Reason) (position : ℕ) → refusedIf fails reason position rest ≡ acceptedWith 0 →
       (fails ≡ false) × (rest ≡ acceptedWith 0)
-  if-cleared true reason position e = absurd (refused-apart reason position e)
+  if-cleared true reason position e = absurd (accepted-apart (sym (ap (λ (a : Answer). a .outcome) e)))
   if-cleared false reason position e = (refl, e)
 
   pub order-cleared : (last order : ℕ) → orderChecked last order rest ≡ acceptedWith 0 → (order ≤ last) × (rest ≡ acceptedWith 0)
@@ -63,38 +63,41 @@ length-cleared rest limit n e =
 
 -- What is known where a call's checks pass.
 module _ {now : Check} where
-  pub text-passed : (n given : ℕ) → Adds Passed now (textChecked n given) → now ≡ Passed → (0 < n) × (n ≤ maxLength) × (n ≤ given)
+  sized-passed : (n : ℕ) (check : Answer → Answer) → Adds Passed now (λ rest. lengthChecked maxLength n (check rest)) → now ≡ Passed →
+      Sized n × (check (acceptedWith 0) ≡ acceptedWith 0)
+  sized-passed n check all e =
+      let known = length-cleared (check (acceptedWith 0)) maxLength n (passing all (acceptedWith 0) e) in
+      (record { some = known .0; short = known .1 }, known .2)
+
+  pub text-passed : (n given : ℕ) → Adds Passed now (textChecked n given) → now ≡ Passed → Sized n × (n ≤ given)
   text-passed n given all e =
-      let sized = length-cleared (outputChecked n given (acceptedWith 0)) maxLength n (passing all (acceptedWith 0) e) in
-      let room = output-cleared (acceptedWith 0) n given (sized .2) in
-      (sized .0, sized .1, room .0)
+      let sized = sized-passed n (outputChecked n given) all e in
+      (sized .0, output-cleared (acceptedWith 0) n given (sized .1) .0)
 
   pub ordered-text-passed : (n order given : ℕ) → Adds Passed now (orderedTextChecked n order given) → now ≡ Passed →
-      (0 < n) × (n ≤ maxLength) × (order ≤ 1) × (n ≤ given)
+      Sized n × (order ≤ 1) × (n ≤ given)
   ordered-text-passed n order given all e =
-      let rest = outputChecked n given (acceptedWith 0) in
-      let sized = length-cleared (orderChecked 1 order rest) maxLength n (passing all (acceptedWith 0) e) in
-      let named = order-cleared rest 1 order (sized .2) in
-      let room = output-cleared (acceptedWith 0) n given (named .1) in
-      (sized .0, sized .1, named .0, room .0)
+      let sized = sized-passed n (λ rest. orderChecked 1 order (outputChecked n given rest)) all e in
+      let named = order-cleared (outputChecked n given (acceptedWith 0)) 1 order (sized .1) in
+      (sized .0, named .0, output-cleared (acceptedWith 0) n given (named .1) .0)
 
-  pub forest-passed : (n first past : ℕ) → Adds Passed now (forestChecked n first past) → now ≡ Passed →
-      (0 < n) × (n ≤ maxLength) × (n ≤ first) × (n ≤ past)
+  pub forest-passed : (n first past : ℕ) → Adds Passed now (forestChecked n first past) → now ≡ Passed → Sized n × (n ≤ first) × (n ≤ past)
   forest-passed n first past all e =
-      let rest = outputChecked n past (acceptedWith 0) in
-      let sized = length-cleared (outputChecked n first rest) maxLength n (passing all (acceptedWith 0) e) in
-      let in-first = output-cleared rest n first (sized .2) in
-      let in-past = output-cleared (acceptedWith 0) n past (in-first .1) in
-      (sized .0, sized .1, in-first .0, in-past .0)
+      let sized = sized-passed n (λ rest. outputChecked n first (outputChecked n past rest)) all e in
+      let in-first = output-cleared (outputChecked n past (acceptedWith 0)) n first (sized .1) in
+      (sized .0, in-first .0, output-cleared (acceptedWith 0) n past (in-first .1) .0)
 
   pub runs-passed : (n list work : ℕ) → Adds Passed now (runsChecked n list work) → now ≡ Passed →
-      (0 < n) × (n ≤ maxLength) × (runListLength n ≤ list) × (workLength n ≤ work)
+      Sized n × (runListLength n ≤ list) × (workLength n ≤ work)
   runs-passed n list work all e =
-      let rest = workChecked (workLength n) work (acceptedWith 0) in
-      let sized = length-cleared (outputChecked (runListLength n) list rest) maxLength n (passing all (acceptedWith 0) e) in
-      let in-list = output-cleared rest (runListLength n) list (sized .2) in
-      let in-work = work-cleared (acceptedWith 0) (workLength n) work (in-list .1) in
-      (sized .0, sized .1, in-list .0, in-work .0)
+      let sized = sized-passed n (λ rest. outputChecked (runListLength n) list (workChecked (workLength n) work rest)) all e in
+      let in-list = output-cleared (workChecked (workLength n) work (acceptedWith 0)) (runListLength n) list (sized .1) in
+      (sized .0, in-list .0, work-cleared (acceptedWith 0) (workLength n) work (in-list .1) .0)
+
+  pub reader-passed : (n given : ℕ) → Adds Passed now (readerChecked n given) → now ≡ Passed → (n ≤ maxInput) × (maxLetters ≤ given)
+  reader-passed n given all e =
+      let room = output-cleared (inputChecked n (acceptedWith 0)) maxLetters given (passing all (acceptedWith 0) e) in
+      (ltb-false maxInput n (if-cleared (acceptedWith 0) (ltb maxInput n) FileTooLong maxInput (room .1) .0), room .0)
 
 -- The checks, where their conditions hold.
 module _ (rest : Answer) where
@@ -111,23 +114,23 @@ module _ (rest : Answer) where
   work-passes needed given h = simp (le-ltb given needed h)
 
 -- A call's checks pass where each buffer has the places needed.
-module _ (n : ℕ) (sized : Sized n) (rest : Answer) where
-  pub text-passes : (given : ℕ) → n ≤ given → textChecked n given rest ≡ rest
-  text-passes given room = length-passes _ maxLength n (λ e. omega (arith, sized .some)) (sized .short) ∙ output-passes rest n given room
+module _ (n : ℕ) (sized : Sized n) where
+  sized-passes : (rest : Answer) → lengthChecked maxLength n rest ≡ rest
+  sized-passes rest = length-passes rest maxLength n (λ e. omega (arith, sized .some)) (sized .short)
 
-  pub ordered-text-passes : (order given : ℕ) → order ≤ 1 → n ≤ given → orderedTextChecked n order given rest ≡ rest
-  ordered-text-passes order given named room =
-      length-passes _ maxLength n (λ e. omega (arith, sized .some)) (sized .short) ∙ order-passes _ 1 order named ∙ output-passes rest n given room
+  module _ (rest : Answer) where
+    pub text-passes : (given : ℕ) → n ≤ given → textChecked n given rest ≡ rest
+    text-passes given room = sized-passes _ ∙ output-passes rest n given room
 
-  pub forest-passes : (first past : ℕ) → n ≤ first → n ≤ past → forestChecked n first past rest ≡ rest
-  forest-passes first past first-room past-room =
-      length-passes _ maxLength n (λ e. omega (arith, sized .some)) (sized .short) ∙ output-passes _ n first first-room ∙
-      output-passes rest n past past-room
+    pub ordered-text-passes : (order given : ℕ) → order ≤ 1 → n ≤ given → orderedTextChecked n order given rest ≡ rest
+    ordered-text-passes order given named room = sized-passes _ ∙ order-passes _ 1 order named ∙ output-passes rest n given room
 
-  pub runs-passes : (list work : ℕ) → runListLength n ≤ list → workLength n ≤ work → runsChecked n list work rest ≡ rest
-  runs-passes list work list-room work-room =
-      length-passes _ maxLength n (λ e. omega (arith, sized .some)) (sized .short) ∙ output-passes _ (runListLength n) list list-room ∙
-      work-passes rest (workLength n) work work-room
+    pub forest-passes : (first past : ℕ) → n ≤ first → n ≤ past → forestChecked n first past rest ≡ rest
+    forest-passes first past first-room past-room = sized-passes _ ∙ output-passes _ n first first-room ∙ output-passes rest n past past-room
+
+    pub runs-passes : (list work : ℕ) → runListLength n ≤ list → workLength n ≤ work → runsChecked n list work rest ≡ rest
+    runs-passes list work list-room work-room =
+        sized-passes _ ∙ output-passes _ (runListLength n) list list-room ∙ work-passes rest (workLength n) work work-room
 
 -- The checks, where they refuse: together with the laws above, each is given whenever its condition holds, and never otherwise.
 module _ (rest : Answer) where

@@ -12,9 +12,9 @@ use Rattle.answer.specs.declared.Outcome.the-variants.{Accepted, Refused
 use Rattle.answer.specs.declared.checks.Check.{Check}
 use Rattle.answer.specs.declared.checks.Check.the-variants.{Passed, Failed}
 use Rattle.answer.specs.declared.Reason.{Reason}
-use Rattle.answer.specs.declared.Reason.the-variants.{EmptyText, TextTooLong, UnknownOrder, ShortOutput, ShortWork}
+use Rattle.answer.specs.declared.Reason.the-variants.{EmptyText, TextTooLong, UnknownOrder, ShortOutput, ShortWork, FileTooLong}
 use Rattle.answer.specs.Answers.{refusedFor}
-use Rattle.answer.specs.Limits.{maxLength, runListLength, workLength}
+use Rattle.answer.specs.Limits.{maxLength, maxLetters, maxInput, runListLength, workLength}
 
 -- Refused where a check fails, else what follows.
 abbrev pub refusedIf : Bool → Reason → ℕ → Answer → Answer
@@ -44,7 +44,11 @@ outputChecked needed given = refusedIf (ltb given needed) ShortOutput 0
 abbrev pub workChecked : ℕ → ℕ → Answer → Answer
 workChecked needed given = refusedIf (ltb given needed) ShortWork 0
 
--- 1, 2 and 4: a call on n letters or entries that writes as many numbers.
+-- Refusal 15: the input of the reader, of n bytes.
+abbrev pub inputChecked : ℕ → Answer → Answer
+inputChecked n = refusedIf (ltb maxInput n) FileTooLong maxInput
+
+-- 1, 2 and 4: a call on n letters or entries that needs as many places.
 abbrev pub textChecked : ℕ → ℕ → Answer → Answer
 textChecked n given rest = lengthChecked maxLength n (outputChecked n given rest)
 
@@ -59,6 +63,10 @@ forestChecked n first past rest = textChecked n first (outputChecked n past rest
 -- 1, 2, 4 and 5: the runs of n letters, with the lengths of the list and of the work buffer.
 abbrev pub runsChecked : ℕ → ℕ → ℕ → Answer → Answer
 runsChecked n list work rest = lengthChecked maxLength n (outputChecked (runListLength n) list (workChecked (workLength n) work rest))
+
+-- 4 and 15: the reader, on an input of n bytes.
+abbrev pub readerChecked : ℕ → ℕ → Answer → Answer
+readerChecked n given rest = outputChecked maxLetters given (inputChecked n rest)
 
 -- The answer where `rest` follows the checks so far.
 abbrev pub answerTo : Check → Answer → Answer

@@ -4,6 +4,7 @@ use mathlib.Core.Path.{_≡_}
 use mathlib.Core.List.{List, _++_}
 use Prim.Native.Nat.{ℕ, _+_, _<_, _≤_}
 use lib.ListN.{length, getD, take, drop}
+use Rattle.answer.specs.Limits.{maxLength}
 
 -- The places t with P t hold what they held before.
 pub record Kept (P : ℕ → Type 0) (before after : List ℕ) : Type 0 where
@@ -37,3 +38,9 @@ pub record Written (before after : List ℕ) (at next : ℕ) (l : List ℕ) : Ty
 -- Where l is still to be written from `at` on into b, that makes all of l₀ written from at₀ on into b₀.
 pub record Pending (b : List ℕ) (at : ℕ) (l b₀ : List ℕ) (at₀ : ℕ) (l₀ : List ℕ) : Type 0 where
   pub completed : (a : List ℕ) (next : ℕ) → Written b a at next l → Written b₀ a at₀ next l₀
+
+-- What the work of a call may take for granted once its checks have passed: the text is no longer than the limit, and the buffer has a place for
+-- each letter.
+pub record TextRoom (text out : List ℕ) : Type 0 where
+  pub short : length text ≤ maxLength
+  pub places : length text ≤ length out

@@ -6,10 +6,10 @@ use answer::checks;
 use answer::checks::Check;
 use letters::Comparison;
 ghost use mathlib.Core.Path.{_≡_};
-ghost use Prim.Native.Nat.{_+_, _-_, _≤_, _<_};
 ghost use lib.ListN.{length};
 ghost use Rattle.array.specs.Core.Join.{JoinReady, JoinedTo};
-ghost use Rattle.array.specs.Core.Fill.{TextFits, Filled};
+ghost use Rattle.array.specs.Core.Fill.{Filled};
+ghost use Rattle.answer.specs.Content.{TextRoom};
 ghost use Rattle.array.specs.Calls.{arrayAnswer};
 ghost use Rattle.answer.specs.Checks.{written, contentAfter};
 ghost use Rattle.words.specs.Decided.{decided-order};
@@ -101,7 +101,7 @@ pub(crate) fn join(text: &[u32], order: u32, buf: &mut [u32], i: usize) -> Joine
 
 // Joins at every position from the last to the first.
 fn fill(text: &[u32], order: u32, buf: &mut [u32])
-    requires { ⌜ TextFits (now text) (now buf) ⌝ }
+    requires { ⌜ TextRoom (now text) (now buf) ⌝ }
     ensures content { λ r. ⌜ Filled order (now (text .entry)) (now (buf .entry)) (now (buf .exit)) 0 ⌝ }
 {
     let mut i = text.len();
@@ -114,7 +114,7 @@ fn fill(text: &[u32], order: u32, buf: &mut [u32])
 
 // Writes the Lyndon array of the text.
 fn compute(text: &[u32], order: u32, buf: &mut [u32])
-    requires { ⌜ TextFits (now text) (now buf) ⌝ }
+    requires { ⌜ TextRoom (now text) (now buf) ⌝ }
     ensures content { λ r. ⌜ now (buf .exit) ≡ written (arrayOf (decided-order order) (now (text .entry))) (now (buf .entry)) ⌝ }
 {
     fill(text, order, buf);

@@ -16,7 +16,7 @@ use Rattle.words.specs.Laws.LeftForest.{Uncrossed, LeftRecords, longest-nested,
 use Rattle.words.specs.Laws.ForestUnique.{left-forest-unique}
 use Rattle.answer.specs.ContentLaws.{kept-then, kept-where, written-places}
 use Rattle.factors.specs.Default.{defaultOrder, decided-default}
-use Rattle.factors.specs.TextRoom.{TextRoom}
+use Rattle.answer.specs.Content.{TextRoom}
 use Rattle.factors.specs.Results.{Tabled, Grown}
 use Rattle.factors.specs.Links.{startIn, Descends, Linked, Linkable, Crossed, OwnRoots}
 

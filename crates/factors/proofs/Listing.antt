@@ -14,7 +14,7 @@ use Rattle.factors.specs.Default.{decided-default}
 use Rattle.factors.specs.Duval.{stretchAt, factorsFrom, duval}
 use Rattle.factors.specs.DuvalSteps.{Bounded, Kept, stretch-bounded, factors-step, factors-end}
 use Rattle.factors.specs.DuvalFactorization.{duval-factorization}
-use Rattle.factors.specs.TextRoom.{TextRoom}
+use Rattle.answer.specs.Content.{TextRoom}
 use Rattle.factors.specs.Results.{FactorsListed}
 
 -- `count` factors are listed and stand in the buffer; those that follow from `start` on are the rest of Duval's list.

@@ -27,7 +27,7 @@ use Rattle.factors.specs.declared.scan.Stretch.{Stretch}
 use Rattle.factors.specs.Default.{defaultOrder, decided-default}
 use Rattle.factors.specs.DuvalSteps.{Bounded, answerAt}
 use Rattle.factors.specs.DuvalFactorization.{stopped-next, stopped-rest}
-use Rattle.factors.specs.TextRoom.{TextRoom}
+use Rattle.answer.specs.Content.{TextRoom}
 use Rattle.factors.specs.Results.{Tabled, Startable, Covered, TableFilled}
 
 -- The scan from `start` has come to `end` with a period, and the entries up to there are written.

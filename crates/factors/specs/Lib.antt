@@ -2,7 +2,6 @@ pub mod Default
 pub mod Duval
 pub mod DuvalSteps
 pub mod DuvalFactorization
-pub mod TextRoom
 pub mod Results
 pub mod Links
 pub mod Answers

@@ -1,7 +1,7 @@
 -- What the contracts of the calls say by the published definitions: texts of 1 to 1,048,576 letters are accepted, and what is then in the
 -- buffers.
 -- Assumes nothing.
-use mathlib.Core.Path.{_≡_, refl, _∙_}
+use mathlib.Core.Path.{_≡_, refl}
 use mathlib.Core.List.{List}
 use Prim.Native.Nat.{ℕ, _≤_}
 use lib.ListN.{length, take, drop}
@@ -13,7 +13,6 @@ use Rattle.words.specs.Compute.SuffixTable.{suffixTableOf, suffixTableOf-holds}
 use Rattle.words.specs.Compute.LeftForest.{leftFirstOf, leftPastOf}
 use Rattle.words.specs.Laws.ForestRecords.{leftForestOf-holds}
 use Rattle.answer.specs.Answers.{acceptedWith}
-use Rattle.answer.specs.Limits.{maxLength}
 use Rattle.answer.specs.Checks.{contentAfter}
 use Rattle.answer.specs.AcceptedContent.{Sized, written-first, written-rest}
 use Rattle.answer.specs.CheckLaws.{text-passes, forest-passes}

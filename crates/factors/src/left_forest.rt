@@ -11,7 +11,7 @@ ghost use Rattle.words.specs.Compute.Factorization.{factorizationOf};
 ghost use Rattle.words.specs.Compute.LeftForest.{leftFirstOf, leftPastOf};
 ghost use Rattle.answer.specs.Checks.{contentAfter};
 ghost use Rattle.factors.specs.Default.{decided-default};
-ghost use Rattle.factors.specs.TextRoom.{TextRoom};
+ghost use Rattle.answer.specs.Content.{TextRoom};
 ghost use Rattle.factors.specs.Results.{Grown};
 ghost use Rattle.factors.specs.Answers.{leftForestAnswer};
 ghost use Rattle.factors.specs.Links.{Descends, Linked, Closes, Linkable, Crossed, OwnRoots};

@@ -11,7 +11,7 @@ ghost use lib.ListN.{length};
 ghost use Rattle.words.specs.Compute.SuffixTable.{suffixTableOf};
 ghost use Rattle.answer.specs.Checks.{contentAfter};
 ghost use Rattle.factors.specs.Default.{decided-default};
-ghost use Rattle.factors.specs.TextRoom.{TextRoom};
+ghost use Rattle.answer.specs.Content.{TextRoom};
 ghost use Rattle.factors.specs.Results.{Tabled, Startable, Covered, TableFilled};
 ghost use Rattle.factors.specs.Answers.{suffixTableAnswer};
 

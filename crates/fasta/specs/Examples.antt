@@ -1,7 +1,8 @@
 -- An accepted input, and one for each refusal, computed.
 -- Assumes nothing.
 use mathlib.Core.Path.{_≡_, refl}
-use mathlib.Core.List.{[], _∷_}
+use mathlib.Core.List.{List, [], _∷_}
+use Prim.Native.Nat.{ℕ}
 use lib.ListN.{replicate}
 use Rattle.answer.specs.declared.Reason.the-variants.{ShortOutput, NoHeader, BadName, UnfitByte, SecondRecord, NoLetters, TooManyLetters, FileTooLong}
 use Rattle.answer.specs.Answers.{acceptedWith, refusedFor}
@@ -17,7 +18,8 @@ letters-kept : lettersOf (62 ∷ 109 ∷ 10 ∷ 65 ∷ 67 ∷ 13 ∷ 10 ∷ 10 �
 letters-kept = refl
 
 -- The name ends at 2.
-name-end : nameEndAfter (acceptedWith 4) (62 ∷ 109 ∷ 10 ∷ 65 ∷ 67 ∷ 13 ∷ 10 ∷ 10 ∷ 103 ∷ 116 ∷ []) ≡ 2
+name-end :
+    let x : List ℕ = 62 ∷ 109 ∷ 10 ∷ 65 ∷ 67 ∷ 13 ∷ 10 ∷ 10 ∷ 103 ∷ 116 ∷ [] in nameEndAfter (readerAnswer x 2048) x ≡ 2
 name-end = refl
 
 -- A buffer of 2,047 places.

@@ -2,9 +2,8 @@
 -- Assumes nothing.
 use mathlib.Core.Bool.{cond}
 use mathlib.Core.List.{List, [], _∷_}
-use Prim.Native.Nat.{ℕ, suc, _+_}
+use Prim.Native.Nat.{ℕ, suc}
 use lib.Dec.{ltb, eqb}
-use lib.ListN.{length, drop}
 use Rattle.fasta.specs.declared.bytes.NameByte.{NameByte}
 use Rattle.fasta.specs.declared.bytes.NameByte.the-variants.{Part, Past, Foreign}
 use Rattle.fasta.specs.declared.name.Name.{Name}
@@ -34,22 +33,3 @@ nameFrom p count (b ∷ s) = nameStep (nameByteOf b) p count (nameFrom (suc p) (
 abbrev pub endOf : Name → ℕ
 endOf (Named end) = end
 endOf (Misnamed position) = 0
-
--- The bytes of a name: b, a byte of this kind, before those of the rest.
-abbrev pub nameBefore : NameByte → ℕ → List ℕ → List ℕ
-nameBefore Part b rest = b ∷ rest
-nameBefore Past b rest = []
-nameBefore Foreign b rest = []
-
--- The bytes of the name that begins s.
-abbrev pub nameIn : List ℕ → List ℕ
-nameIn [] = []
-nameIn (b ∷ s) = nameBefore (nameByteOf b) b (nameIn s)
-
--- The name of the record of x that starts at p, with its '>'.
-abbrev pub recordName : List ℕ → ℕ → List ℕ
-recordName x p = nameIn (drop (suc p) x)
-
--- Where that name ends: past its last byte.
-abbrev pub nameEnd : List ℕ → ℕ → ℕ
-nameEnd x p = suc p + length (recordName x p)

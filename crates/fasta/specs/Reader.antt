@@ -3,22 +3,21 @@
 -- Assumes nothing.
 use mathlib.Core.Bool.{false, cond}
 use mathlib.Core.List.{List}
-use Prim.Native.Nat.{ℕ, suc}
-use lib.Dec.{ltb, eqb}
-use lib.ListN.{length, drop}
+use Prim.Native.Nat.{ℕ, suc, _-_}
+use lib.Dec.{eqb}
+use lib.ListN.{length, take, drop}
 use Rattle.answer.specs.declared.Answer.{Answer}
 use Rattle.answer.specs.declared.Outcome.{Outcome}
 use Rattle.answer.specs.declared.Outcome.the-variants.{Accepted, Refused}
-use Rattle.answer.specs.declared.Reason.the-variants.{NoHeader, BadName, SecondRecord, NoLetters, FileTooLong}
+use Rattle.answer.specs.declared.Reason.the-variants.{NoHeader, BadName, SecondRecord, NoLetters}
 use Rattle.answer.specs.Answers.{acceptedWith, refusedFor}
-use Rattle.answer.specs.Checks.{refusedIf, outputChecked}
-use Rattle.answer.specs.Limits.{maxLetters, maxInput}
+use Rattle.answer.specs.Checks.{refusedIf, readerChecked, contentAfter}
 use Rattle.fasta.specs.declared.name.Name.{Name}
 use Rattle.fasta.specs.declared.name.Name.the-variants.{Named, Misnamed}
 use Rattle.fasta.specs.declared.lines.Ending.{Ending}
 use Rattle.fasta.specs.declared.lines.Ending.the-variants.{RefusedAt, NextRecord, Finished}
 use Rattle.fasta.specs.Bytes.{headerMark, startsWith}
-use Rattle.fasta.specs.Name.{nameFrom, endOf, nameEnd}
+use Rattle.fasta.specs.Name.{nameFrom, endOf}
 use Rattle.fasta.specs.Lines.{afterLine, linesFrom, lettersIn}
 
 -- Refusal 9: byte 0 of a record that starts at p and whose bytes are s.
@@ -41,9 +40,13 @@ recordEnding x p =
     (nameChecked (nameFrom (suc p) 0 (drop (suc p) x))
     (linesFrom (linesStart x p) false 0 (drop (linesStart x p) x)))
 
--- Where the name of that record is found to end, or 0 where refusals 9 and 10 find none.
-abbrev pub nameEndFound : List ℕ → ℕ → ℕ
-nameEndFound x p = cond (startsWith headerMark (drop p x)) (endOf (nameFrom (suc p) 0 (drop (suc p) x))) 0
+-- Where the name of that record ends, past its last byte; 0 where refusals 9 and 10 find none.
+abbrev pub nameEnd : List ℕ → ℕ → ℕ
+nameEnd x p = cond (startsWith headerMark (drop p x)) (endOf (nameFrom (suc p) 0 (drop (suc p) x))) 0
+
+-- That name: the bytes between the '>' and its end.
+abbrev pub recordName : List ℕ → ℕ → List ℕ
+recordName x p = take (nameEnd x p - suc p) (drop (suc p) x)
 
 -- The letters of the record of x that starts at p and is its last.
 abbrev pub recordLetters : List ℕ → ℕ → List ℕ
@@ -55,17 +58,17 @@ answerFor (RefusedAt reason p) = refusedFor reason p
 answerFor (NextRecord count p) = refusedFor SecondRecord p
 answerFor (Finished count p) = refusedIf (eqb count 0) NoLetters p (acceptedWith count)
 
--- Refusal 15: an input of n bytes.
-abbrev pub sizeChecked : ℕ → Answer → Answer
-sizeChecked n = refusedIf (ltb maxInput n) FileTooLong maxInput
-
 -- What the reader answers to the input x with a letters buffer of so many places.
 abbrev pub readerAnswer : List ℕ → ℕ → Answer
-readerAnswer x places = outputChecked maxLetters places (sizeChecked (length x) (answerFor (recordEnding x 0)))
+readerAnswer x places = readerChecked (length x) places (answerFor (recordEnding x 0))
 
 -- The letters that the reader writes for an accepted input x.
 abbrev pub lettersOf : List ℕ → List ℕ
 lettersOf x = recordLetters x 0
+
+-- What `read` and `read_named` leave in the buffer `letters`.
+abbrev pub lettersAfter : List ℕ → List ℕ → List ℕ
+lettersAfter x letters = contentAfter (readerAnswer x (length letters)) (lettersOf x) letters
 
 -- Where the name of the input x ends by the reader's outcome: 0 where it refuses.
 abbrev pub nameEndIn : Outcome → List ℕ → ℕ

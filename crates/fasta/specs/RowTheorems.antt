@@ -4,20 +4,19 @@
 use mathlib.Core.Path.{_≡_, ap, subst}
 use mathlib.Core.Logic.{_↔_}
 use mathlib.Core.List.{List, map}
-use Prim.Native.Nat.{ℕ, _-_, _≤_}
+use Prim.Native.Nat.{ℕ, _≤_}
 use native.Mathlib.Omega.{arith}
 use lib.ListN.{length, take, drop}
 use Rattle.words.specs.ExactlyOne.{ExactlyOne}
 use Rattle.answer.specs.declared.Answer.{Answer}
 use Rattle.answer.specs.declared.Reason.{Reason}
 use Rattle.answer.specs.Answers.{acceptedWith, refusedFor}
+use Rattle.answer.specs.AcceptedContent.{written-first, written-rest}
 use Rattle.fasta.specs.Bytes.{letterOf}
-use Rattle.fasta.specs.Name.{recordName}
-use Rattle.fasta.specs.Reader.{linesStart, nameEndFound, readerAnswer, lettersOf}
+use Rattle.fasta.specs.Reader.{linesStart, nameEnd, readerAnswer, lettersOf, lettersAfter}
 use Rattle.fasta.specs.Rows.{NameEnds, HeaderEnds, sequenceLetters}
 use Rattle.fasta.specs.CheckOrder.{Refuses, Accepts, HasAnswer}
 use Rattle.fasta.specs.Laws.Accepted.{AcceptedInput, reader-accepted}
-use Rattle.fasta.specs.Laws.NameBytes.{name-bytes}
 use Rattle.fasta.specs.Laws.HeaderLine.{header-unique, LinesBegin, lines-begin, record-letters}
 use Rattle.fasta.specs.Laws.CheckOrder.{reader-says}
 use Rattle.fasta.specs.Laws.OneAnswer.{answer-unique}
@@ -48,10 +47,14 @@ one-header-end x s h =
 pub letters-are : (x : List ℕ) (e : ℕ) → HeaderEnds x 0 e → lettersOf x ≡ map letterOf (sequenceLetters x e)
 letters-are x e h = record-letters x 0 e (omega arith) h
 
--- The name of an accepted input ends where document 01 says, and is what stands between the '>' and that position.
-pub accepted-name :
-    (x : List ℕ) (places c : ℕ) → readerAnswer x places ≡ acceptedWith c
-    → (p : ℕ) × NameEnds x 0 p × (recordName x 0 ≡ take (p - 1) (drop 1 x))
-accepted-name x places c e =
-    let a : AcceptedInput x c = reader-accepted x places c (ap (λ (b : Answer). b .outcome) e) in
-    (nameEndFound x 0, a .name, name-bytes (a .name))
+-- With a buffer that the reader accepts, the first places hold them, and the others what they held before.
+pub letters-written :
+    (x letters : List ℕ) (c : ℕ) → readerAnswer x (length letters) ≡ acceptedWith c
+    → (take c (lettersAfter x letters) ≡ lettersOf x) × (drop c (lettersAfter x letters) ≡ drop c letters)
+letters-written x letters c e =
+    let a : AcceptedInput x c = reader-accepted x (length letters) c (ap (λ (b : Answer). b .outcome) e) in
+    (written-first _ c c (lettersOf x) letters e (a .letters), written-rest _ c c (lettersOf x) letters e (a .letters))
+
+-- The name of an accepted input ends where document 01 says; `recordName` is what stands between the '>' and that position.
+pub accepted-name : (x : List ℕ) (places c : ℕ) → readerAnswer x places ≡ acceptedWith c → NameEnds x 0 (nameEnd x 0)
+accepted-name x places c e = reader-accepted x places c (ap (λ (b : Answer). b .outcome) e) .name

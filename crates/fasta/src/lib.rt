@@ -1,4 +1,4 @@
-// The FASTA reader: an input of one record, checked in the order of document 01's table, gives its letters.
+// The FASTA reader: an input of one record, checked in the order of document 01's table, gives its letters and where its name ends.
 // Contracts cite `specs/Reader.antt`. Nothing is assumed.
 pub mod bytes;
 pub mod lines;
@@ -9,7 +9,7 @@ ghost use Prim.Native.Nat.{_≤_};
 ghost use lib.ListN.{length};
 ghost use Rattle.answer.specs.Checks.{contentAfter};
 ghost use Rattle.answer.specs.Limits.{maxInput, maxLetters};
-ghost use Rattle.fasta.specs.Reader.{recordEnding, nameEndFound, answerFor, readerAnswer, lettersOf, nameEndAfter};
+ghost use Rattle.fasta.specs.Reader.{recordEnding, nameEnd, answerFor, readerAnswer, lettersOf, nameEndAfter};
 use crate::bytes::HEADER_MARK;
 use crate::bytes::stands_at;
 use crate::lines::Ending;
@@ -24,8 +24,6 @@ use answer::Reason;
 use answer::accepted;
 use answer::checks;
 use answer::checks::Check;
-use answer::limits::MAX_INPUT;
-use answer::limits::MAX_LETTERS;
 use answer::refused;
 
 // What the reader answers, and the `end` of the name, past its last byte: 0 where it refuses.
@@ -45,7 +43,7 @@ fn record_ending(input: &[u8], from: usize) -> NamedEnding
     requires { ⌜ from ≤ length (now input) ⌝ }
     requires { ⌜ length (now input) ≤ maxInput ⌝ }
     ensures ending { λ r. ⌜ r .ending ≡ recordEnding (now (input .entry)) from ⌝ }
-    ensures end { λ r. ⌜ r .end ≡ nameEndFound (now (input .entry)) from ⌝ }
+    ensures end { λ r. ⌜ r .end ≡ nameEnd (now (input .entry)) from ⌝ }
 {
     if stands_at(HEADER_MARK, input, from) {
         let name = name_from(input, from + 1);
@@ -119,13 +117,7 @@ pub fn read_named(input: &[u8], letters: &mut [u8]) -> NamedAnswer
     ensures content { λ r. ⌜ now (letters .exit) ≡ contentAfter (r .answer) (lettersOf (now (input .entry))) (now (letters .entry)) ⌝ }
     ensures end { λ r. ⌜ r .end ≡ nameEndAfter (r .answer) (now (input .entry)) ⌝ }
 {
-    let c = checks::output(Check::Passed, MAX_LETTERS, letters.len());
-    let c = checks::refuse_if(
-        c,
-        MAX_INPUT < input.len(),
-        Reason::FileTooLong,
-        MAX_INPUT as u32,
-    );
+    let c = checks::reader(input.len(), letters.len());
     match c {
         Check::Failed { reason, position } => NamedAnswer {
             answer: refused(reason, position),

@@ -3,14 +3,13 @@
 use mathlib.Core.Path.{_≡_, refl, sym, ap, subst, _∙_}
 use mathlib.Core.List.{List}
 use Prim.Native.Nat.{ℕ}
-use native.Mathlib.Omega.{arith}
 use lib.ListN.{length}
 use Rattle.words.specs.ValidArray.{Valid}
 use Rattle.words.specs.Compute.ValidArray.{Verdict, fits, fault, HasVerdict, checkArray, checkArray-holds}
 use Rattle.answer.specs.declared.Answer.{Answer}
-use Rattle.answer.specs.declared.Outcome.the-variants.{Accepted, Refused}
-use Rattle.answer.specs.declared.Reason.{Reason}
+use Rattle.answer.specs.declared.Outcome.the-variants.{Accepted}
 use Rattle.answer.specs.Answers.{acceptedWith}
+use Rattle.answer.specs.CheckLaws.{accepted-apart}
 use Rattle.from_array.specs.Answers.{verdictAnswer, arrayChecked}
 
 -- An accepted array is valid, and the count is its length.
@@ -29,7 +28,4 @@ accepting a r count e o = go (checkArray a) refl (checkArray-holds a)
     go fits q h =
         let z : Accepted count ≡ Accepted (length a) = told ∙ ap (λ (w : Verdict). verdictAnswer (length a) w .outcome) q in
         record { valid = subst (HasVerdict a) q h; counted = cc; answered = ap (verdictAnswer (length a)) q }
-    go (fault f i) q h = absurd (differ (told ∙ ap (λ (w : Verdict). verdictAnswer (length a) w .outcome) q))
-      where
-        differ : {reason : Reason} {position : ℕ} → Accepted count ≡ Refused reason position → ⊥
-        differ z = let n : _≡_ {A = ℕ} 0 1 = cc in omega arith
+    go (fault f i) q h = absurd (accepted-apart (told ∙ ap (λ (w : Verdict). verdictAnswer (length a) w .outcome) q))

@@ -6,11 +6,9 @@ ghost use mathlib.Core.Path.{_≡_};
 ghost use mathlib.Core.Bool.{true};
 ghost use mathlib.Core.Logic.{_↔_};
 ghost use lib.ListN.{length};
-ghost use Rattle.words.specs.ValidArray.{textFor};
-ghost use Rattle.words.specs.ArrayForest.{forestFirst, forestPast};
 ghost use Rattle.answer.specs.Answers.{number, value};
-ghost use Rattle.answer.specs.Checks.{contentAfter};
 ghost use Rattle.from_array.specs.Answers.{reconstructAnswer, rightForestAnswer};
+ghost use Rattle.from_array.specs.Theorems.{textAfter, rightFirstAfter, rightPastAfter};
 
 // Whether both hold the same numbers.
 fn same(a: &[u32], b: &[u32]) -> bool
@@ -33,7 +31,7 @@ fn same(a: &[u32], b: &[u32]) -> bool
 fn expect_text(array: &[u32], text: &mut [u32], said: u32, with: u32, wanted: &[u32])
     requires { ⌜ number (reconstructAnswer (now array) (length (now text))) ≡ said ⌝ }
     requires { ⌜ value (reconstructAnswer (now array) (length (now text))) ≡ «with» ⌝ }
-    requires { ⌜ contentAfter (reconstructAnswer (now array) (length (now text))) (textFor (now array)) (now text) ≡ now wanted ⌝ }
+    requires { ⌜ textAfter (now array) (now text) ≡ now wanted ⌝ }
 {
     let answer = from_array::reconstruct(array, text);
     expect(answer::number(answer) == said);
@@ -53,8 +51,8 @@ fn expect_forest(
 )
     requires { ⌜ number (rightForestAnswer (now array) (length (now first)) (length (now past))) ≡ said ⌝ }
     requires { ⌜ value (rightForestAnswer (now array) (length (now first)) (length (now past))) ≡ «with» ⌝ }
-    requires { ⌜ contentAfter (rightForestAnswer (now array) (length (now first)) (length (now past))) (forestFirst (now array)) (now first) ≡ now «wanted_first» ⌝ }
-    requires { ⌜ contentAfter (rightForestAnswer (now array) (length (now first)) (length (now past))) (forestPast (now array)) (now past) ≡ now «wanted_past» ⌝ }
+    requires { ⌜ rightFirstAfter (now array) (now first) (now past) ≡ now «wanted_first» ⌝ }
+    requires { ⌜ rightPastAfter (now array) (now first) (now past) ≡ now «wanted_past» ⌝ }
 {
     let answer = from_array::right_forest(array, first, past);
     expect(answer::number(answer) == said);

@@ -1,6 +1,6 @@
 -- What the lister prints, by the rows of the reader and the published definition of runs.
 -- Assumes nothing.
-use mathlib.Core.Path.{_≡_, sym, ap, ap₂, subst, _∙_}
+use mathlib.Core.Path.{_≡_, ap, ap₂, subst, _∙_}
 use mathlib.Core.List.{List, map}
 use Prim.Native.Nat.{ℕ, _-_}
 use lib.ListN.{take, drop}
@@ -14,12 +14,11 @@ use Rattle.answer.specs.declared.Reason.{Reason}
 use Rattle.answer.specs.Reasons.{numberOf}
 use Rattle.answer.specs.Limits.{maxLetters}
 use Rattle.fasta.specs.Bytes.{letterOf}
-use Rattle.fasta.specs.Name.{recordName}
 use Rattle.fasta.specs.Rows.{NameEnds, HeaderEnds, sequenceLetters}
 use Rattle.fasta.specs.CheckOrder.{Refuses, Accepts}
 use Rattle.fasta.specs.Reader.{lettersOf}
-use Rattle.fasta.specs.RowTheorems.{refused-exactly, accepted-exactly, letters-are}
-use Rattle.fasta.specs.Laws.NameBytes.{name-bytes}
+use Rattle.fasta.specs.RowTheorems.{refused-exactly, accepted-exactly, letters-are, accepted-name}
+use Rattle.fasta.specs.Laws.NameBytes.{name-unique}
 use Rattle.listing.specs.Bed.{bedLines}
 use Rattle.listing.specs.Listing.{refusalLine, listingFor, listingOf}
 
@@ -36,5 +35,6 @@ module _ (x : List ℕ) where
       let letters : lettersOf x ≡ map letterOf (sequenceLetters x e) = letters-are x e header in
       let same : runsOf decided-number-equality (lettersOf x) ≡ rs =
       run-list-unique (subst (λ (l : List ℕ). IsRunList l (runsOf decided-number-equality (lettersOf x))) letters (runsOf-holds decided-number-equality (lettersOf x))) runs in
-      ap (λ (a : Answer). listingFor (a .outcome) x) (accepted-exactly x maxLetters c .1 h) ∙
-      ap₂ bedLines (name-bytes name) same
+      let answer = accepted-exactly x maxLetters c .1 h in
+      ap (λ (a : Answer). listingFor (a .outcome) x) answer ∙
+      ap₂ bedLines (ap (λ (q : ℕ). take (q - 1) (drop 1 x)) (name-unique (accepted-name x maxLetters c answer) name)) same

@@ -5,14 +5,13 @@ use answer::Answer;
 ghost use mathlib.Core.Path.{_≡_};
 ghost use lib.ListN.{length};
 ghost use Rattle.lyndon_c.specs.Record.{recordOf};
-ghost use Rattle.answer.specs.Checks.{contentAfter};
 ghost use Rattle.array.specs.Calls.{arrayAnswer, runsAnswer};
 ghost use Rattle.array.specs.Theorems.{arrayAfter, listAfter, workAfter};
 ghost use Rattle.factors.specs.Answers.{factorizationAnswer, suffixTableAnswer, leftForestAnswer};
 ghost use Rattle.factors.specs.Theorems.{startsAfter, tableAfter, leftFirstAfter, leftPastAfter};
 ghost use Rattle.from_array.specs.Answers.{reconstructAnswer, rightForestAnswer};
 ghost use Rattle.from_array.specs.Theorems.{textAfter, rightFirstAfter, rightPastAfter};
-ghost use Rattle.fasta.specs.Reader.{readerAnswer, lettersOf};
+ghost use Rattle.fasta.specs.Reader.{readerAnswer, lettersAfter};
 
 // An answer as C has it: number 0 and the count, or the refusal's number and the position.
 #[repr(C)]
@@ -117,7 +116,7 @@ pub extern "C" fn lyndon_reconstruct(array: &[u32], text: &mut [u32]) -> LyndonA
 #[no_mangle]
 pub extern "C" fn lyndon_read_fasta(input: &[u8], letters: &mut [u8]) -> LyndonAnswer
     ensures answer { λ r. ⌜ r ≡ recordOf (readerAnswer (now (input .entry)) (length (now (letters .entry)))) ⌝ }
-    ensures content { λ r. ⌜ now (letters .exit) ≡ contentAfter (readerAnswer (now (input .entry)) (length (now (letters .entry)))) (lettersOf (now (input .entry))) (now (letters .entry)) ⌝ }
+    ensures content { λ r. ⌜ now (letters .exit) ≡ lettersAfter (now (input .entry)) (now (letters .entry)) ⌝ }
 {
     exported(fasta::read(input, letters))
 }

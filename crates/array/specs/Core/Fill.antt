@@ -4,14 +4,8 @@ use mathlib.Core.Path.{_≡_}
 use mathlib.Core.List.{List}
 use Prim.Native.Nat.{ℕ, _<_, _≤_}
 use lib.ListN.{length, getD}
-use Rattle.answer.specs.Limits.{maxLength}
 use Rattle.answer.specs.Content.{Kept, From}
 use Rattle.array.specs.Core.Rows.{entryOf, RowsOf}
-
--- A text that is not too long, with a buffer for its array.
-pub record TextFits (x buf : List ℕ) : Type 0 where
-  pub fits : length x ≤ length buf
-  pub small : length x ≤ maxLength
 
 -- The positions from i on have been joined.
 pub record Filled (order : ℕ) (x before after : List ℕ) (i : ℕ) : Type 0 where

@@ -9,7 +9,6 @@ use Rattle.answer.specs.Checks.{written, contentIn}
 use Rattle.fasta.specs.Lines.{lettersIn}
 use Rattle.fasta.specs.Reader.{answerFor, recordEnding, lettersOf, nameEndIn}
 use Rattle.fasta.specs.Laws.Positions.{linesStart-within}
-use Rattle.fasta.specs.Laws.NameBytes.{name-end}
 use Rattle.fasta.specs.Laws.Accepted.{AcceptedInput, accepted-input}
 use borrow.Author.Needs.{needs}
 use Rattle.fasta.proofs.read_record.Statement.{statement}
@@ -71,7 +70,7 @@ returns-2 c =
         c .before .before .write-letters .ensures
             ∙ (ap (λ (q : ℕ). written (lettersIn (drop q x)) b) (c .before .before .before .before .after-line .ensures)
             ∙ sym (ap (λ (o : Outcome). contentIn o (lettersOf x) b) told)),
-        accepted .before .before .before .record-ending .ensures .1 ∙ name-end (known accepted .name) ∙ sym (ap (λ (o : Outcome). nameEndIn o x) told),
+        accepted .before .before .before .record-ending .ensures .1 ∙ sym (ap (λ (o : Outcome). nameEndIn o x) told),
       ),
     )
 

@@ -10,7 +10,7 @@ use Rattle.fasta.specs.declared.name.Name.{Name}
 use Rattle.fasta.specs.Bytes.{headerMark}
 use Rattle.fasta.specs.Name.{endOf}
 use Rattle.fasta.specs.Lines.{linesFrom}
-use Rattle.fasta.specs.Reader.{nameChecked, linesStart, recordEnding, nameEndFound}
+use Rattle.fasta.specs.Reader.{nameChecked, linesStart, recordEnding, nameEnd}
 use Rattle.fasta.specs.Laws.Positions.{linesStart-within, starts-inside}
 use borrow.Author.Needs.{needs}
 use Rattle.fasta.proofs.record_ending.Statement.{statement}
@@ -22,7 +22,7 @@ with-header :
     let args = c .before .before .before .before .args in
     let x = args .input .now in
     let p = args .from in
-    (nameChecked n (linesFrom (linesStart x p) false 0 (drop (linesStart x p) x)) ≡ recordEnding x p) × (endOf n ≡ nameEndFound x p)
+    (nameChecked n (linesFrom (linesStart x p) false 0 (drop (linesStart x p) x)) ≡ recordEnding x p) × (endOf n ≡ nameEnd x p)
 with-header c e =
     let h = sym (c .before .before .stands-at .ensures) ∙ c .before .if1 .taken in
     let m = rw (add-one (c .before .before .before .before .args .from)) at (sym (c .name-from .ensures) ∙ e) in

@@ -12,12 +12,13 @@ use lib.Seq.{take-at, take-length}
 use Rattle.answer.specs.declared.Reason.the-variants.{ShortOutput, NoLetters, FileTooLong}
 use Rattle.answer.specs.declared.Outcome.the-variants.{Accepted}
 use Rattle.answer.specs.Answers.{acceptedWith}
+use Rattle.answer.specs.CheckLaws.{accepted-apart}
 use Rattle.answer.specs.Checks.{refusedIf, written}
 use Rattle.answer.specs.Limits.{maxLetters, maxInput}
 use Rattle.fasta.specs.declared.lines.Ending.{Ending}
 use Rattle.fasta.specs.declared.lines.Ending.the-variants.{RefusedAt, NextRecord, Finished}
 use Rattle.fasta.specs.Bytes.{letterOf}
-use Rattle.fasta.specs.Reader.{recordEnding, nameEndFound, answerFor, readerAnswer, lettersOf}
+use Rattle.fasta.specs.Reader.{recordEnding, nameEnd, answerFor, readerAnswer, lettersOf}
 use Rattle.fasta.specs.Rows.{NameEnds, sequenceLetters, in-lines}
 use Rattle.fasta.specs.Laws.LineRows.{letters-most}
 use Rattle.fasta.specs.Laws.HeaderLine.{record-letters}
@@ -28,18 +29,18 @@ pub record AcceptedInput (x : List ℕ) (count : ℕ) : Type 0 where
   pub letters : length (lettersOf x) ≡ count
   pub some : 0 < count
   pub most : count ≤ maxLetters
-  pub name : NameEnds x 0 (nameEndFound x 0)
+  pub name : NameEnds x 0 (nameEnd x 0)
 
 -- An ending that is accepted is the input's end, after some letters.
 finished-accepted :
     (e : Ending) (count : ℕ) → answerFor e .outcome ≡ Accepted count → (q : ℕ) × (e ≡ Finished count q) × (0 < count)
-finished-accepted (RefusedAt r p) count h = let z : _≡_ {A = ℕ} 0 1 = cc in absurd (omega arith)
-finished-accepted (NextRecord n p) count h = let z : _≡_ {A = ℕ} 0 1 = cc in absurd (omega arith)
+finished-accepted (RefusedAt r p) count h = absurd (accepted-apart (sym h))
+finished-accepted (NextRecord n p) count h = absurd (accepted-apart (sym h))
 finished-accepted (Finished n p) count h = go (eqb n 0) refl h
   where
     go : (t : Bool) → eqb n 0 ≡ t → refusedIf t NoLetters p (acceptedWith n) .outcome ≡ Accepted count
         → (q : ℕ) × (Finished n p ≡ Finished count q) × (0 < count)
-    go true l e = let z : _≡_ {A = ℕ} 0 1 = cc in absurd (omega arith)
+    go true l e = absurd (accepted-apart (sym e))
     go false l e =
         let z : n ≡ count = cc in
         let y : n ≡ 0 → ⊥ = eqb-false n 0 l in
@@ -58,7 +59,7 @@ whole-most {x} w =
 pub accepted-input : (x : List ℕ) (count : ℕ) → answerFor (recordEnding x 0) .outcome ≡ Accepted count → AcceptedInput x count
 accepted-input x count h =
     let f : (q : ℕ) × (recordEnding x 0 ≡ Finished count q) × (0 < count) = finished-accepted (recordEnding x 0) count h in
-    let w : ReadToEnd x 0 (nameEndFound x 0) count (f .0) = subst (RecordSays x 0 (nameEndFound x 0)) (f .1) (record-says x 0 (omega arith)) in
+    let w : ReadToEnd x 0 (nameEnd x 0) count (f .0) = subst (RecordSays x 0 (nameEnd x 0)) (f .1) (record-says x 0 (omega arith)) in
     record {
       letters =
           ap length (record-letters x 0 (w .header-end) (omega arith) (w .ends))
@@ -77,8 +78,8 @@ reader-accepted x places count h = go (ltb places maxLetters) (ltb maxInput (len
         → refusedIf s ShortOutput 0 (refusedIf t FileTooLong maxInput (answerFor (recordEnding x 0))) .outcome
         ≡ Accepted count
         → AcceptedInput x count
-    go true t e = let z : _≡_ {A = ℕ} 0 1 = cc in absurd (omega arith)
-    go false true e = let z : _≡_ {A = ℕ} 0 1 = cc in absurd (omega arith)
+    go true t e = absurd (accepted-apart (sym e))
+    go false true e = absurd (accepted-apart (sym e))
     go false false e = accepted-input x count e
 
 -- The letters of an accepted input are what the buffer begins with.

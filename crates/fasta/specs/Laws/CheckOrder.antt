@@ -15,7 +15,7 @@ use Rattle.answer.specs.Checks.{refusedIf}
 use Rattle.answer.specs.Limits.{maxLetters, maxInput}
 use Rattle.fasta.specs.declared.lines.Ending.{Ending}
 use Rattle.fasta.specs.declared.lines.Ending.the-variants.{RefusedAt, NextRecord, Finished}
-use Rattle.fasta.specs.Reader.{recordEnding, nameEndFound, answerFor, readerAnswer}
+use Rattle.fasta.specs.Reader.{recordEnding, nameEnd, answerFor, readerAnswer}
 use Rattle.fasta.specs.Rows.{sequenceLetters, RecordRow, no-letters, Row, short-buffer, long-input, in-record}
 use Rattle.fasta.specs.CheckOrder.{EarlierCheck, FirstOf, Refuses, Accepts, HasAnswer}
 use Rattle.fasta.specs.Laws.RecordRows.{earlier-pass, earlier-position, record-pass, last-only, ReadToEnd, RecordSays, record-says}
@@ -87,4 +87,4 @@ module _ (x : List ℕ) (places : ℕ) where
       go true t h i = short-first (ltb-true places maxLetters h)
       go false true h i = long-first (ltb-false places maxLetters h) (ltb-true maxInput (length x) i)
       go false false h i =
-          answer-says (ltb-false places maxLetters h) (ltb-false maxInput (length x) i) (nameEndFound x 0) (recordEnding x 0) (record-says x 0 (omega arith))
+          answer-says (ltb-false places maxLetters h) (ltb-false maxInput (length x) i) (nameEnd x 0) (recordEnding x 0) (record-says x 0 (omega arith))

@@ -16,7 +16,7 @@ use Rattle.fasta.specs.declared.lines.Ending.the-variants.{RefusedAt, Ne
 use Rattle.fasta.specs.Bytes.{headerMark, startsWith}
 use Rattle.fasta.specs.Name.{nameFrom, endOf}
 use Rattle.fasta.specs.Lines.{linesFrom}
-use Rattle.fasta.specs.Reader.{nameChecked, linesStart, recordEnding, nameEndFound}
+use Rattle.fasta.specs.Reader.{nameChecked, linesStart, recordEnding, nameEnd}
 use Rattle.fasta.specs.Rows.{Stands, NameEnds, HeaderEnds, sequenceLetters, LineRow, unfit-byte, second-record, letter-too-many}
 use Rattle.fasta.specs.Rows.{RecordRow, no-header, bad-name, in-lines, no-letters}
 use Rattle.fasta.specs.CheckOrder.{passOf, EarlierCheck, by-pass, by-position, FirstOf}
@@ -132,7 +132,7 @@ module _ (x : List ℕ) (s : ℕ) where
     lines-record (Finished c p) h = lines-whole (h .0) (h .1) (h .2)
 
 -- How the record ends that starts at s.
-pub record-says : (x : List ℕ) (s : ℕ) → s ≤ length x → RecordSays x s (nameEndFound x s) (recordEnding x s)
+pub record-says : (x : List ℕ) (s : ℕ) → s ≤ length x → RecordSays x s (nameEnd x s) (recordEnding x s)
 record-says x s h = go (startsWith headerMark (drop s x)) (start-says x s headerMark)
   where
     lines : LinesBegin x s (linesStart x s)

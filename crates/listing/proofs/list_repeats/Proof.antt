@@ -12,9 +12,8 @@ use Rattle.answer.specs.Answers.{numberIn, valueIn}
 use Rattle.answer.specs.Checks.{contentIn}
 use Rattle.answer.specs.Limits.{maxLetters}
 use Rattle.array.specs.Calls.{runList}
-use Rattle.fasta.specs.Reader.{readerAnswer, lettersOf, nameEndIn}
+use Rattle.fasta.specs.Reader.{nameEnd, readerAnswer, lettersOf, nameEndIn}
 use Rattle.fasta.specs.Rows.{NameEnds}
-use Rattle.fasta.specs.Laws.NameBytes.{name-end, name-bytes}
 use Rattle.fasta.specs.Laws.Accepted.{AcceptedInput, reader-accepted, letters-first}
 use Rattle.listing.specs.Bed.{bedLines}
 use Rattle.listing.specs.Listing.{refusalLine}
@@ -44,11 +43,11 @@ module _ (c : tie.After-outcome) where
   known = reader-accepted _ maxLetters _ accepted
 
   -- Its name ends where the reader says.
+  end-is : reading c .read-named .result .end ≡ nameEnd (entry (reading c) .args .input .now) 0
+  end-is = reading c .read-named .ensures .1 .1 ∙ ap (λ (o : Outcome). nameEndIn o (entry (reading c) .args .input .now)) (c .outcome .given .1)
+
   named : NameEnds (entry (reading c) .args .input .now) 0 (reading c .read-named .result .end)
-  named =
-      let x = entry (reading c) .args .input .now in
-      let end = reading c .read-named .ensures .1 .1 ∙ ap (λ (o : Outcome). nameEndIn o x) (c .outcome .given .1) in
-      subst (NameEnds x 0) (name-end (known .name) ∙ sym end) (known .name)
+  named = subst (NameEnds (entry (reading c) .args .input .now) 0) (sym end-is) (known .name)
 
   -- The letters have their place in the buffer.
   fits : c .outcome .given .0 .0 ≤ length (reading c .read-named .last .1 .0)
@@ -143,7 +142,7 @@ returns-2 c =
     let outcome = c .before .before .before .before .before .before .before .before .before .before .before .before .before in
     let x = entry (reading outcome) .args .input .now in
     written-as (c .before .before .before .before .before .before .write-record .ensures)
-    (ap₂ (λ (m l : List ℕ). bedLines m (runList l)) (sym (name-bytes (named outcome))) (letters outcome) ∙ sym (listing-accepted x _ (accepted outcome)))
+    (ap₂ (λ (m l : List ℕ). bedLines m (runList l)) (ap (λ (q : ℕ). take (q - 1) (drop 1 x)) (end-is outcome)) (letters outcome) ∙ sym (listing-accepted x _ (accepted outcome)))
 
 pub list-repeats-spec : {M : Type 1} → statement M
 list-repeats-spec =

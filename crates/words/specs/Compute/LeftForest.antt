@@ -2,13 +2,12 @@
 -- Assumes nothing.
 use mathlib.Core.Bool.{true, false}
 use mathlib.Core.List.{List, [], _∷_, _++_}
-use Prim.Native.Nat.{ℕ, zero, suc, _+_, _-_}
+use Prim.Native.Nat.{ℕ, zero, suc, _+_}
 use lib.ListN.{length, getD}
 use lib.Dec.{ltb}
 use Rattle.words.specs.Letters.{Letters}
 use Rattle.words.specs.Decided.{Decided}
 use Rattle.words.specs.Word.{span}
-use Rattle.words.specs.CutTree.{cut}
 use Rattle.words.specs.Compute.Lyndon.{lyndonb}
 use Rattle.words.specs.Compute.Search.{greatestBelow}
 

@@ -8,7 +8,7 @@ use Prim.Native.Nat.{ℕ, zero, suc, _+_, _-_, _/_}
 use lib.ListN.{length, getElem?}
 use lib.Dec.{leb}
 use Rattle.words.specs.Equality.{DecidedEquality, decided-number-equality}
-use Rattle.words.specs.Runs.{SameLetter, HasPeriod, Entry, numbers}
+use Rattle.words.specs.Runs.{Entry, numbers}
 use Rattle.words.specs.Compute.Search.{firstFrom}
 
 -- f passes at each of the d numbers from i on.

@@ -10,7 +10,6 @@ use lib.Seq.{drop-drop, getD-drop, drop-append-seam}
 use lib.Dec.{T, ltb, ltb→lt, nltb→le}
 use Rattle.words.specs.Letters.{Letters}
 use Rattle.words.specs.Decided.{Decided}
-use Rattle.words.specs.Word.{span}
 use Rattle.words.specs.Factorization.{IsFactorization}
 use Rattle.words.specs.CutTree.{CutTree, letter, cut, Recorded, Tree, IsForest}
 use Rattle.words.specs.LeftForest.{LeftCut, IsLeftForest}

@@ -1,7 +1,7 @@
 -- A run by document 002's second condition: with the neighbour letter on either side the span has only larger periods. Document 01 says
 -- that the neighbour does not continue period p.
 -- Assumes nothing.
-use mathlib.Core.Path.{_≡_, refl, sym, subst}
+use mathlib.Core.Path.{_≡_, subst}
 use mathlib.Core.Logic.{_↔_}
 use mathlib.Core.List.{List}
 use Prim.Native.Nat.{ℕ, suc, _+_, _-_, _<_, _≤_}

@@ -3,13 +3,11 @@
 -- Assumes nothing.
 use mathlib.Core.Path.{_≡_, refl, sym, ap, _∙_}
 use mathlib.Core.Bool.{Bool}
-use mathlib.Core.Option.{Option}
 use mathlib.Core.List.{List}
-use Prim.Native.Nat.{ℕ, _<_, _≤_}
+use Prim.Native.Nat.{ℕ, _<_}
 use native.Mathlib.Omega.{arith}
 use native.Mathlib.Nat.{zero-add}
 use native.Mathlib.Decide.{decLt}
-use lib.Dec.{T}
 use lib.ListN.{length, getD, getElem?}
 use Rattle.words.specs.Equality.{decided-number-equality}
 use Rattle.words.specs.Runs.{SameLetter, Entry, IsRunList}

@@ -5,7 +5,7 @@ use Prim.Native.Nat.{ℕ, _+_, _-_, _<_, _≤_}
 use native.Mathlib.Omega.{arith}
 use native.Mathlib.Decide.{decLt}
 use Rattle.words.specs.Letters.{Letters, Smaller, reversed}
-use Rattle.words.specs.Decided.{below, same, turned, turned-means}
+use Rattle.words.specs.Decided.{below, turned, turned-means}
 use Rattle.words.specs.Laws.Position.{Agree, BelowWithin}
 use Rattle.words.specs.Laws.SuffixOrder.{SuffixLess, ends, parts, NextSmaller, suffix-cancel, agree-sym}
 use Rattle.words.specs.Laws.NextSmaller.{next-lyndon, next-unique, next-nests, lyndon-next}

@@ -6,7 +6,7 @@ use native.Mathlib.Nat.{mod-lt, mod-eq-of-lt, add-mod-right}
 use native.Mathlib.Omega.{arith}
 use native.Mathlib.Decide.{decLt}
 use Rattle.words.specs.Letters.{Letters, Smaller}
-use Rattle.words.specs.Decided.{below, same}
+use Rattle.words.specs.Decided.{below}
 use Rattle.words.specs.Laws.Letters.{Compared}
 use Rattle.words.specs.Laws.Position.{BelowWithin, SpanLyndon}
 use Rattle.words.specs.Laws.Compared.{AllCompared}

@@ -7,8 +7,8 @@ use mathlib.Core.List.{List, [], _∷_, _++_, cons≢nil}
 use native.Mathlib.Omega.{arith}
 use lib.ListN.{length, drop, getD}
 use Rattle.words.specs.Letters.{Letters, Smaller}
-use Rattle.words.specs.Decided.{Decided, Comparison, below, same, above, Means}
-use Rattle.words.specs.Word.{ProperPrefix, StronglyLess, Less}
+use Rattle.words.specs.Decided.{Decided, below, same, above}
+use Rattle.words.specs.Word.{Less}
 use Rattle.words.specs.Laws.Letters.{Compared, compared-irrefutable}
 
 -- Two words that are not empty and equal begin with equal letters.

@@ -1,6 +1,6 @@
 -- `answer::checks::forest` meets its contract: one check after the other.
 -- Assumes nothing.
-use Rattle.answer.proofs.Ladders.{forest-adds}
+use Rattle.answer.proofs.CallChecks.{forest-adds}
 use borrow.Author.Needs.{needs}
 use Rattle.answer.proofs.checks.forest.Statement.{statement}
 use Rattle.answer.proofs.checks.forest.Tie as tie

@@ -1,6 +1,6 @@
 -- `answer::checks::ordered_text` meets its contract: one check after the other.
 -- Assumes nothing.
-use Rattle.answer.proofs.Ladders.{ordered-text-adds}
+use Rattle.answer.proofs.CallChecks.{ordered-text-adds}
 use borrow.Author.Needs.{needs}
 use Rattle.answer.proofs.checks.ordered_text.Statement.{statement}
 use Rattle.answer.proofs.checks.ordered_text.Tie as tie

@@ -1,6 +1,6 @@
 -- `answer::checks::runs` meets its contract: one check after the other.
 -- Assumes nothing.
-use Rattle.answer.proofs.Ladders.{runs-adds}
+use Rattle.answer.proofs.CallChecks.{runs-adds}
 use borrow.Author.Needs.{needs}
 use Rattle.answer.proofs.checks.runs.Statement.{statement}
 use Rattle.answer.proofs.checks.runs.Tie as tie

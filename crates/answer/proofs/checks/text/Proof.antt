@@ -1,6 +1,6 @@
 -- `answer::checks::text` meets its contract: one check after the other.
 -- Assumes nothing.
-use Rattle.answer.proofs.Ladders.{text-adds}
+use Rattle.answer.proofs.CallChecks.{text-adds}
 use borrow.Author.Needs.{needs}
 use Rattle.answer.proofs.checks.text.Statement.{statement}
 use Rattle.answer.proofs.checks.text.Tie as tie

@@ -1,9 +1,11 @@
 -- `array::bytes::lyndon_array` meets its contract: the checks give the answer, and the array is written where they pass.
 -- Assumes nothing.
+use mathlib.Core.Path.{sym, _∙_}
 use native.Mathlib.Omega.{arith}
+use Rattle.answer.specs.CheckLaws.{passing, failing}
 use Rattle.answer.specs.AfterLaws.{content-refused, content-accepted}
-use Rattle.array.specs.Core.Fill.{TextFits}
-use Rattle.array.proofs.AnswerLaws.{array-refused, array-accepted, array-fits}
+use Rattle.answer.specs.Content.{TextRoom}
+use Rattle.array.proofs.AnswerLaws.{array-fits}
 use borrow.Author.Needs.{needs}
 use Rattle.array.proofs.bytes.lyndon_array.Statement.{statement}
 use Rattle.array.proofs.bytes.lyndon_array.Tie as tie
@@ -18,7 +20,9 @@ refused-requires : tie.Need-refused-requires
 refused-requires c κs = search needs
 
 returns : tie.Need-returns
-returns c = (search array-refused, search content-refused)
+returns c =
+    let last = c .before .before .before .before in
+    (c .refused .ensures ∙ sym (failing (last .ordered-text .ensures) _ (c .before .before .c .given .1)), search content-refused)
 
 enum-told : tie.Need-enum-told
 enum-told c = search needs
@@ -26,14 +30,14 @@ enum-told c = search needs
 abbrev start : tie.After-enum-told → tie.Start
 start c = c .before .before .before .before .before
 
-fits : (c : tie.After-enum-told) → TextFits (start c .args .text .now) (start c .args .out .now)
+fits : (c : tie.After-enum-told) → TextRoom (start c .args .text .now) (start c .args .out .now)
 fits c = search array-fits
 
 compute-requires : tie.Need-compute-requires
 compute-requires c κs = fits (c .before)
 
 cast-accepted : tie.Need-cast-accepted
-cast-accepted c = omega (arith, fits (c .before .before .before .before) .small)
+cast-accepted c = omega (arith, fits (c .before .before .before .before) .short)
 
 accepted-requires : tie.Need-accepted-requires
 accepted-requires c κs = search needs
@@ -42,7 +46,9 @@ same-length : tie.Need-same-length
 same-length c = search needs
 
 returns-2 : tie.Need-returns-2
-returns-2 c = (search array-accepted, search content-accepted)
+returns-2 c =
+    let told = c .before .before .before .before .before in
+    (c .accepted .ensures ∙ sym (passing (told .before .before .ordered-text .ensures) _ (told .enum-told .given .1)), search content-accepted)
 
 pub lyndon-array-spec : {M : Type 1} → statement M
 lyndon-array-spec =

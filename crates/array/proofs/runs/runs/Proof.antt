@@ -1,30 +1,15 @@
 -- `array::runs::runs` meets its contract: the checks give the answer, and the runs are sought where they pass.
 -- Assumes nothing.
-use mathlib.Core.Path.{_≡_, sym, ap, _∙_}
-use mathlib.Core.List.{List}
-use Prim.Native.Nat.{ℕ, _≤_}
+use mathlib.Core.Path.{sym, ap, _∙_}
+use Prim.Native.Nat.{_≤_}
 use lib.ListN.{length}
-use Rattle.answer.specs.declared.Answer.{Answer}
-use Rattle.answer.specs.declared.Reason.{Reason}
-use Rattle.answer.specs.declared.checks.Check.{Check}
-use Rattle.answer.specs.declared.checks.Check.the-variants.{Passed, Failed}
-use Rattle.answer.specs.Answers.{acceptedWith, refusedFor}
+use Rattle.answer.specs.Answers.{acceptedWith}
 use Rattle.answer.specs.Limits.{maxLength, runListLength, workLength}
-use Rattle.answer.specs.Checks.{runsChecked, Adds}
-use Rattle.answer.specs.AfterLaws.{content-refused, content-accepted}
 use Rattle.answer.specs.CheckLaws.{passing, failing, runs-passed}
-use Rattle.array.specs.Calls.{runList, runsAnswer}
+use Rattle.answer.specs.AfterLaws.{content-refused, content-accepted}
 use borrow.Author.Needs.{needs}
 use Rattle.array.proofs.runs.runs.Statement.{statement}
 use Rattle.array.proofs.runs.runs.Tie as tie
-
-module _ (x : List ℕ) (work list : ℕ) (c : Check) (checked : Adds Passed c (runsChecked (length x) list work)) where
-  runs-refused : (r : Answer) (reason : Reason) (position : ℕ) → c ≡ Failed reason position → r ≡ refusedFor reason position →
-      r ≡ runsAnswer x work list
-  runs-refused r reason position e answered = answered ∙ sym (failing checked _ e)
-
-  runs-accepted : (r : Answer) (count : ℕ) → c ≡ Passed → r ≡ acceptedWith count → count ≡ length (runList x) → r ≡ runsAnswer x work list
-  runs-accepted r count e answered counted = answered ∙ ap acceptedWith counted ∙ sym (passing checked _ e)
 
 runs-requires : tie.Need-runs-requires
 runs-requires c κs = search needs
@@ -36,7 +21,11 @@ refused-requires : tie.Need-refused-requires
 refused-requires c κs = search needs
 
 returns : tie.Need-returns
-returns c = (search runs-refused, (search content-refused, search content-refused))
+returns c =
+    let last = c .before .before .before .before in (
+      c .refused .ensures ∙ sym (failing (last .runs .ensures) _ (c .before .before .c .given .1)),
+      (search content-refused, search content-refused),
+    )
 
 enum-told : tie.Need-enum-told
 enum-told c = search needs
@@ -50,7 +39,7 @@ room c =
     let args = start c .args in
     let known = runs-passed (length (args .text .now)) (length (args .list .now)) (length (args .work .now))
     (c .before .before .runs .ensures) (c .enum-told .given .1) in
-    (known .1, known .2, known .3)
+    (known .0 .short, known .1, known .2)
 
 find-requires : tie.Need-find-requires
 find-requires c κs = room (c .before .before)
@@ -68,7 +57,12 @@ same-length-2 : tie.Need-same-length-2
 same-length-2 c = search needs
 
 returns-2 : tie.Need-returns-2
-returns-2 c = (search runs-accepted, (search content-accepted, search content-accepted))
+returns-2 c =
+    let found = c .before .before .before .before .before in
+    let told = found .before .before .before in (
+      c .accepted .ensures ∙ ap acceptedWith (found .find .ensures .counted) ∙ sym (passing (told .before .before .runs .ensures) _ (told .enum-told .given .1)),
+      (search content-accepted, search content-accepted),
+    )
 
 pub runs-spec : {M : Type 1} → statement M
 runs-spec =

@@ -7,7 +7,7 @@ use lib.ListN.{length}
 use borrow.Author.Needs.{needs}
 use Rattle.answer.specs.AfterLaws.{content-refused, content-accepted}
 use Rattle.answer.specs.CheckLaws.{passing, failing, forest-passed}
-use Rattle.factors.specs.TextRoom.{TextRoom}
+use Rattle.answer.specs.Content.{TextRoom}
 use Rattle.factors.proofs.left_forest.left_forest.Statement.{statement}
 use Rattle.factors.proofs.left_forest.left_forest.Tie as tie
 
@@ -22,7 +22,7 @@ room c =
     let args = start c .args in
     let n = length (args .text .now) in
     let known = forest-passed n (length (args .first .now)) (length (args .past .now)) (c .before .before .forest .ensures) (c .enum-told .given .1) in
-    (known .0, record { short = known .1; places = known .2 }, record { short = known .1; places = known .3 })
+    (known .0 .some, record { short = known .0 .short; places = known .1 }, record { short = known .0 .short; places = known .2 })
 
 forest-requires : tie.Need-forest-requires
 forest-requires c κs = search needs

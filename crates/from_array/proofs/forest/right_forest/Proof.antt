@@ -34,7 +34,7 @@ past c = start c .args .past .now
 room : (c : tie.After-enum-told) → (length (a c) ≤ maxLength) × (length (a c) ≤ length (first c)) × (length (a c) ≤ length (past c))
 room c =
     let known = forest-passed (length (a c)) (length (first c)) (length (past c)) (c .before .before .forest .ensures) (c .enum-told .given .1) in
-    (known .1, known .2, known .3)
+    (known .0 .short, known .1, known .2)
 
 checked : (c : tie.After-enum-told) → rightForestAnswer (a c) (length (first c)) (length (past c)) ≡ arrayChecked (a c)
 checked c = passing (c .before .before .forest .ensures) _ (c .enum-told .given .1)

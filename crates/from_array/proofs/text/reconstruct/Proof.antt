@@ -29,7 +29,7 @@ text c = start c .args .text .now
 room : (c : tie.After-enum-told) → (length (a c) ≤ maxLength) × (length (a c) ≤ length (text c))
 room c =
     let known = text-passed (length (a c)) (length (text c)) (c .before .before .text .ensures) (c .enum-told .given .1) in
-    (known .1, known .2)
+    (known .0 .short, known .1)
 
 checked : (c : tie.After-enum-told) → reconstructAnswer (a c) (length (text c)) ≡ arrayChecked (a c)
 checked c = passing (c .before .before .text .ensures) _ (c .enum-told .given .1)

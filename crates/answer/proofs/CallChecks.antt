@@ -3,8 +3,8 @@
 use Prim.Native.Nat.{ℕ}
 use Rattle.answer.specs.declared.checks.Check.{Check}
 use Rattle.answer.specs.declared.checks.Check.the-variants.{Passed}
-use Rattle.answer.specs.Limits.{maxLength, runListLength, workLength}
-use Rattle.answer.specs.Checks.{Adds, lengthChecked, orderChecked, outputChecked, workChecked, textChecked, orderedTextChecked, forestChecked, runsChecked}
+use Rattle.answer.specs.Limits.{maxLength, maxLetters, runListLength, workLength}
+use Rattle.answer.specs.Checks.{Adds, lengthChecked, orderChecked, outputChecked, workChecked, inputChecked, textChecked, orderedTextChecked, forestChecked, runsChecked, readerChecked}
 use Rattle.answer.specs.CheckLaws.{then}
 
 module _ {c₁ c₂ : Check} (n : ℕ) where
@@ -15,6 +15,10 @@ module _ {c₁ c₂ : Check} (n : ℕ) where
   pub forest-adds : (first past : ℕ) → Adds Passed c₁ (textChecked n first) → Adds c₁ c₂ (outputChecked n past) →
       Adds Passed c₂ (forestChecked n first past)
   forest-adds first past a b = then a b
+
+  pub reader-adds : (given : ℕ) → Adds Passed c₁ (outputChecked maxLetters given) → Adds c₁ c₂ (inputChecked n) →
+      Adds Passed c₂ (readerChecked n given)
+  reader-adds given a b = then a b
 
   module _ {c₃ : Check} (sized : Adds Passed c₁ (lengthChecked maxLength n)) where
     pub ordered-text-adds : (order given : ℕ) → Adds c₁ c₂ (orderChecked 1 order) → Adds c₂ c₃ (outputChecked n given) →
