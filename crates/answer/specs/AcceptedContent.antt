@@ -8,7 +8,7 @@ use lib.Seq.{take-at, drop-at}
 use Rattle.answer.specs.declared.Answer.{Answer}
 use Rattle.answer.specs.Answers.{acceptedWith}
 use Rattle.answer.specs.Limits.{maxLength}
-use Rattle.answer.specs.Checks.{contentAfter}
+use Rattle.answer.specs.AfterCall.{contentAfter}
 
 -- A text, or an array, of 1 to 1,048,576 letters, or entries.
 pub record Sized (n : ℕ) : Type 0 where

@@ -8,7 +8,7 @@ use Rattle.answer.specs.declared.Outcome.{Outcome}
 use Rattle.answer.specs.declared.Outcome.the-variants.{Accepted, Refused}
 use Rattle.answer.specs.declared.Reason.{Reason}
 use Rattle.answer.specs.Answers.{acceptedWith, refusedFor}
-use Rattle.answer.specs.Checks.{written, contentIn, contentAfter}
+use Rattle.answer.specs.AfterCall.{written, contentIn, contentAfter}
 
 -- An outcome that refuses leaves a buffer as it was.
 pub content-told : (o : Outcome) (reason : Reason) (position : ℕ) → o ≡ Refused reason position → (l before : List ℕ) →

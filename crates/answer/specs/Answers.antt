@@ -1,8 +1,10 @@
 -- Answers: how they are made, and the number and value of each.
 -- Assumes nothing.
 use mathlib.Core.Path.{_≡_, refl, sym, ap₂, _∙_}
+use mathlib.Core.Bool.{Bool, cond}
 use mathlib.Core.List.{List, [], _∷_}
 use Prim.Native.Nat.{ℕ, zero, suc}
+use native.Mathlib.Omega.{arith}
 use lib.ListN.{getD}
 use Rattle.answer.specs.declared.Answer.{Answer}
 use Rattle.answer.specs.declared.Outcome.{Outcome}
@@ -18,6 +20,10 @@ acceptedWith count = record { outcome = Accepted count }
 -- Refused, with the reason and the position.
 abbrev pub refusedFor : Reason → ℕ → Answer
 refusedFor reason position = record { outcome = Refused reason position }
+
+-- Refused where a check fails, else what follows.
+abbrev pub refusedIf : Bool → Reason → ℕ → Answer → Answer
+refusedIf fails reason position rest = cond fails (refusedFor reason position) rest
 
 -- 0 for an accepted outcome, else the reason's number.
 abbrev pub numberIn : Outcome → ℕ
@@ -69,3 +75,9 @@ outcome-told (Refused FileTooLong p) = refl
 -- Number and value tell the whole answer: two answers that have both in common are equal.
 pub answer-told : (a b : Answer) → number a ≡ number b → value a ≡ value b → a ≡ b
 answer-told a b p q = sym (outcome-told (a .outcome)) ∙ ap₂ answerWith p q ∙ outcome-told (b .outcome)
+
+-- No outcome is both accepted and refused.
+pub accepted-apart : {count position : ℕ} {reason : Reason} → ¬ (Accepted count ≡ Refused reason position)
+accepted-apart e =
+    let z : _≡_ {A = ℕ} 0 1 = cc in
+    omega arith

@@ -11,7 +11,7 @@ use lib.ListN.{length, getD, set, take, drop, length-set, length-append, length-
 use lib.Seq.{ext-getD, getD-set-same, getD-set-other, getD-append-add, getD-drop, sets, sets-eq, length-sets}
 use Rattle.words.specs.Tabulate.{tabulate}
 use Rattle.words.specs.Laws.Tabulate.{length-tabulate, getD-tabulate}
-use Rattle.answer.specs.Checks.{written}
+use Rattle.answer.specs.AfterCall.{written}
 use Rattle.answer.specs.Content.{Kept, From, Stored, Holds, Written, Pending}
 
 module _ {P : ℕ → Type 0} where

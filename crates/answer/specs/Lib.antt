@@ -3,8 +3,7 @@ pub mod Answers
 pub mod Limits
 pub mod Content
 pub mod Faults
-pub mod Checks
-pub mod CheckLaws
+pub mod AfterCall
 pub mod AfterLaws
 pub mod ContentLaws
 pub mod AcceptedContent

@@ -2,11 +2,7 @@
 // reason and a position. Answers are made by `accepted` and `refused` alone, and `number` and
 // `value` say what a caller outside the library is told of one.
 //
-// Contracts cite `specs/Reasons.antt` and `specs/Answers.antt`, those of `limits` `specs/Limits.antt`.
-// Nothing is assumed.
-pub mod checks;
-pub mod limits;
-
+// Contracts cite `specs/Reasons.antt` and `specs/Answers.antt`. Nothing is assumed.
 ghost use mathlib.Core.Path.{_≡_};
 ghost use Rattle.answer.specs.Reasons.{numberOf};
 ghost use Rattle.answer.specs.Answers.{acceptedWith, refusedFor, number, value};

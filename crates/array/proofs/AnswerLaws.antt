@@ -4,10 +4,10 @@ use mathlib.Core.Path.{_≡_}
 use mathlib.Core.List.{List}
 use Prim.Native.Nat.{ℕ}
 use lib.ListN.{length}
-use Rattle.answer.specs.declared.checks.Check.{Check}
-use Rattle.answer.specs.declared.checks.Check.the-variants.{Passed}
-use Rattle.answer.specs.Checks.{orderedTextChecked, Adds}
-use Rattle.answer.specs.CheckLaws.{ordered-text-passed}
+use Rattle.checks.specs.declared.Check.{Check}
+use Rattle.checks.specs.declared.Check.the-variants.{Passed}
+use Rattle.checks.specs.Checks.{orderedTextChecked, Adds}
+use Rattle.checks.specs.CheckLaws.{ordered-text-passed}
 use Rattle.answer.specs.Content.{TextRoom}
 
 pub array-fits :

@@ -7,7 +7,7 @@ use native.Mathlib.Omega.{arith}
 use lib.ListN.{length}
 use Rattle.words.specs.Compute.LyndonArray.{arrayOf, arrayOf-holds}
 use Rattle.words.specs.Decided.{decided-order}
-use Rattle.answer.specs.Checks.{written}
+use Rattle.answer.specs.AfterCall.{written}
 use Rattle.answer.specs.ContentLaws.{kept-then, written-places}
 use Rattle.array.specs.Core.Fill.{Filled, HasRows, AllRestored}
 use Rattle.array.specs.Core.Rows.{entryOf}

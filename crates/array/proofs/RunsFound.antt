@@ -14,7 +14,7 @@ use Rattle.words.specs.Laws.EachRunOnce.{EachRunOnce, each-run-once, rearranged
 use Rattle.words.specs.Laws.Runs.{run-list-unique, numbers-length}
 use Rattle.words.specs.Compute.LyndonArray.{arrayOf, arrayOf-holds}
 use Rattle.words.specs.Laws.RunSearch.{runsOf-holds}
-use Rattle.answer.specs.Checks.{written}
+use Rattle.answer.specs.AfterCall.{written}
 use Rattle.answer.specs.ContentLaws.{written-append, written-as, written-whole}
 use Rattle.sorting.specs.Triples.{sortedContent}
 use Rattle.array.specs.Calls.{runList, bothArrays}

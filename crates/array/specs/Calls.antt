@@ -10,7 +10,7 @@ use Rattle.words.specs.Compute.LyndonArray.{arrayOf}
 use Rattle.words.specs.Compute.Runs.{runsOf}
 use Rattle.answer.specs.declared.Answer.{Answer}
 use Rattle.answer.specs.Answers.{acceptedWith}
-use Rattle.answer.specs.Checks.{orderedTextChecked, runsChecked}
+use Rattle.checks.specs.Checks.{orderedTextChecked, runsChecked}
 
 -- The Lyndon array of n letters into a buffer of `given` places: checks 1, 2, 3 and 4 of document 01's table; the count is n.
 abbrev pub arrayAnswer : ℕ → ℕ → ℕ → Answer

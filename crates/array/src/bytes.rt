@@ -2,8 +2,7 @@
 use crate::joined::Joined;
 use crate::places;
 use answer::Answer;
-use answer::checks;
-use answer::checks::Check;
+use checks::Check;
 use letters::Comparison;
 ghost use mathlib.Core.Path.{_≡_};
 ghost use lib.ListN.{length};
@@ -11,7 +10,7 @@ ghost use Rattle.array.specs.Core.Join.{JoinReady, JoinedTo};
 ghost use Rattle.array.specs.Core.Fill.{Filled};
 ghost use Rattle.answer.specs.Content.{TextRoom};
 ghost use Rattle.array.specs.Calls.{arrayAnswer};
-ghost use Rattle.answer.specs.Checks.{written, contentAfter};
+ghost use Rattle.answer.specs.AfterCall.{written, contentAfter};
 ghost use Rattle.words.specs.Decided.{decided-order};
 ghost use Rattle.words.specs.Compute.LyndonArray.{arrayOf};
 

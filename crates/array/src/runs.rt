@@ -3,8 +3,7 @@ use crate::agreement;
 use crate::bytes;
 use crate::places;
 use answer::Answer;
-use answer::checks;
-use answer::checks::Check;
+use checks::Check;
 use letters::Comparison;
 ghost use mathlib.Core.Path.{_≡_};
 ghost use mathlib.Core.List.{[], _∷_};
@@ -15,7 +14,7 @@ ghost use Rattle.answer.specs.Content.{Written};
 ghost use Rattle.array.specs.Core.RunExtent.{StoppedAt, ExtendedTo, LeftExtent, AtRoot};
 ghost use Rattle.array.specs.Core.RunPass.{Listed, VisitReady, Visited, Passing, OrderDone, RunsFound};
 ghost use Rattle.array.specs.Calls.{runsAnswer, runNumbers, bothArrays};
-ghost use Rattle.answer.specs.Checks.{contentAfter};
+ghost use Rattle.answer.specs.AfterCall.{contentAfter};
 
 // How far the suffixes at i and end agree, where the join loop of i has stopped at end after `agreed` letters: all letters that do, unless
 // the two factors are the same; 0 at the end of the text.

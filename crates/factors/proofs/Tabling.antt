@@ -16,7 +16,7 @@ use Rattle.words.specs.Laws.SpanLyndon.{letters}
 use Rattle.words.specs.Laws.Repetition.{Repetition, letter-lyndon, repetition-start, repetition-longer, repetition-extended, lyndon-extended}
 use Rattle.words.specs.Laws.LowestSuffix.{Lowest, lowest-first, lowest-next}
 use Rattle.words.specs.Laws.LongestEnding.{LongestEnding, lowest-longest, repetition-longest, longest-ending, ending-longest}
-use Rattle.answer.specs.Checks.{written}
+use Rattle.answer.specs.AfterCall.{written}
 use Rattle.answer.specs.Content.{Kept, From}
 use Rattle.answer.specs.ContentLaws.{kept-all, kept-then, kept-set, written-places}
 use Rattle.letters.specs.declared.Comparison.{Comparison}

@@ -6,7 +6,7 @@ use lib.ListN.{length}
 use Rattle.words.specs.Compute.Factorization.{factorizationOf}
 use Rattle.answer.specs.declared.Answer.{Answer}
 use Rattle.answer.specs.Answers.{acceptedWith}
-use Rattle.answer.specs.Checks.{textChecked, forestChecked}
+use Rattle.checks.specs.Checks.{textChecked, forestChecked}
 use Rattle.factors.specs.Default.{decided-default}
 
 -- The factor list of x, in a buffer of `given` places: the count is the number of factors.

@@ -10,7 +10,7 @@ use Rattle.words.specs.Compute.LeftForest.{leftFirstOf, leftPastOf}
 use Rattle.words.specs.Laws.SpanLyndon.{letters}
 use Rattle.words.specs.Laws.LowestSuffix.{Lowest}
 use Rattle.answer.specs.Limits.{maxLength}
-use Rattle.answer.specs.Checks.{written}
+use Rattle.answer.specs.AfterCall.{written}
 use Rattle.answer.specs.Content.{Kept, From}
 use Rattle.factors.specs.declared.scan.Stretch.{Stretch}
 use Rattle.factors.specs.Default.{defaultOrder, decided-default}

@@ -13,9 +13,9 @@ use Rattle.words.specs.Compute.SuffixTable.{suffixTableOf, suffixTableOf-holds}
 use Rattle.words.specs.Compute.LeftForest.{leftFirstOf, leftPastOf}
 use Rattle.words.specs.Laws.ForestRecords.{leftForestOf-holds}
 use Rattle.answer.specs.Answers.{acceptedWith}
-use Rattle.answer.specs.Checks.{contentAfter}
+use Rattle.answer.specs.AfterCall.{contentAfter}
 use Rattle.answer.specs.AcceptedContent.{Sized, written-first, written-rest}
-use Rattle.answer.specs.CheckLaws.{text-passes, forest-passes}
+use Rattle.checks.specs.CheckLaws.{text-passes, forest-passes}
 use Rattle.factors.specs.Default.{defaultOrder, decided-default}
 use Rattle.factors.specs.Answers.{factorizationAnswer, suffixTableAnswer, leftForestAnswer}
 

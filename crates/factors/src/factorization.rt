@@ -2,12 +2,11 @@
 use super::scan::Stretch;
 use super::scan::stretch_at;
 use answer::Answer;
-use answer::checks;
-use answer::checks::Check;
+use checks::Check;
 ghost use mathlib.Core.Path.{_≡_};
 ghost use lib.ListN.{length};
 ghost use Rattle.words.specs.Compute.Factorization.{factorizationOf};
-ghost use Rattle.answer.specs.Checks.{contentAfter};
+ghost use Rattle.answer.specs.AfterCall.{contentAfter};
 ghost use Rattle.factors.specs.Default.{decided-default};
 ghost use Rattle.answer.specs.Content.{TextRoom};
 ghost use Rattle.factors.specs.Results.{FactorsListed};

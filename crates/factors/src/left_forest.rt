@@ -1,15 +1,14 @@
 // The left forest of a byte text.
 use super::suffix_table::fill_table;
 use answer::Answer;
-use answer::checks;
-use answer::checks::Check;
+use checks::Check;
 use letters::wide;
 ghost use mathlib.Core.Path.{_≡_};
 ghost use Prim.Native.Nat.{ℕ, _<_};
 ghost use lib.ListN.{length};
 ghost use Rattle.words.specs.Compute.Factorization.{factorizationOf};
 ghost use Rattle.words.specs.Compute.LeftForest.{leftFirstOf, leftPastOf};
-ghost use Rattle.answer.specs.Checks.{contentAfter};
+ghost use Rattle.answer.specs.AfterCall.{contentAfter};
 ghost use Rattle.factors.specs.Default.{decided-default};
 ghost use Rattle.answer.specs.Content.{TextRoom};
 ghost use Rattle.factors.specs.Results.{Grown};

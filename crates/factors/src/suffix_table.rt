@@ -2,14 +2,13 @@
 use super::order::compare;
 use super::scan::Stretch;
 use answer::Answer;
-use answer::checks;
-use answer::checks::Check;
+use checks::Check;
 use letters::Comparison;
 ghost use mathlib.Core.Path.{_≡_};
 ghost use Prim.Native.Nat.{_<_};
 ghost use lib.ListN.{length};
 ghost use Rattle.words.specs.Compute.SuffixTable.{suffixTableOf};
-ghost use Rattle.answer.specs.Checks.{contentAfter};
+ghost use Rattle.answer.specs.AfterCall.{contentAfter};
 ghost use Rattle.factors.specs.Default.{decided-default};
 ghost use Rattle.answer.specs.Content.{TextRoom};
 ghost use Rattle.factors.specs.Results.{Tabled, Startable, Covered, TableFilled};

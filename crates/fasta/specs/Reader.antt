@@ -11,7 +11,9 @@ use Rattle.answer.specs.declared.Outcome.{Outcome}
 use Rattle.answer.specs.declared.Outcome.the-variants.{Accepted, Refused}
 use Rattle.answer.specs.declared.Reason.the-variants.{NoHeader, BadName, SecondRecord, NoLetters}
 use Rattle.answer.specs.Answers.{acceptedWith, refusedFor}
-use Rattle.answer.specs.Checks.{refusedIf, readerChecked, contentAfter}
+use Rattle.answer.specs.Answers.{refusedIf}
+use Rattle.checks.specs.Checks.{readerChecked}
+use Rattle.answer.specs.AfterCall.{contentAfter}
 use Rattle.fasta.specs.declared.name.Name.{Name}
 use Rattle.fasta.specs.declared.name.Name.the-variants.{Named, Misnamed}
 use Rattle.fasta.specs.declared.lines.Ending.{Ending}

@@ -7,7 +7,7 @@ pub mod name;
 ghost use mathlib.Core.Path.{_≡_};
 ghost use Prim.Native.Nat.{_≤_};
 ghost use lib.ListN.{length};
-ghost use Rattle.answer.specs.Checks.{contentAfter};
+ghost use Rattle.answer.specs.AfterCall.{contentAfter};
 ghost use Rattle.answer.specs.Limits.{maxInput, maxLetters};
 ghost use Rattle.fasta.specs.Reader.{recordEnding, nameEnd, answerFor, readerAnswer, lettersOf, nameEndAfter};
 use crate::bytes::HEADER_MARK;
@@ -22,9 +22,8 @@ use answer::Answer;
 use answer::Outcome;
 use answer::Reason;
 use answer::accepted;
-use answer::checks;
-use answer::checks::Check;
 use answer::refused;
+use checks::Check;
 
 // What the reader answers, and the `end` of the name, past its last byte: 0 where it refuses.
 pub struct NamedAnswer {

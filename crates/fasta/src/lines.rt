@@ -3,7 +3,7 @@ ghost use mathlib.Core.Path.{_≡_};
 ghost use mathlib.Core.Bool.{false};
 ghost use Prim.Native.Nat.{_+_, _≤_, _<_};
 ghost use lib.ListN.{length, getD, drop};
-ghost use Rattle.answer.specs.Checks.{written};
+ghost use Rattle.answer.specs.AfterCall.{written};
 ghost use Rattle.answer.specs.Content.{Written};
 ghost use Rattle.answer.specs.Limits.{maxInput};
 ghost use Rattle.fasta.specs.Bytes.{kindOf};
@@ -14,7 +14,7 @@ use crate::bytes::kind_at;
 use crate::bytes::letter_of;
 use crate::bytes::stands_at;
 use answer::Reason;
-use answer::limits::max_letters;
+use checks::limits::max_letters;
 
 // How a record ends.
 pub enum Ending {

@@ -7,7 +7,7 @@ use Rattle.words.specs.Compute.ValidArray.{Verdict, fits, fault, checkArray}
 use Rattle.answer.specs.declared.Answer.{Answer}
 use Rattle.answer.specs.Answers.{acceptedWith, refusedFor}
 use Rattle.answer.specs.Faults.{reasonFor}
-use Rattle.answer.specs.Checks.{textChecked, forestChecked}
+use Rattle.checks.specs.Checks.{textChecked, forestChecked}
 
 -- Refusals 6, 7 and 8: the answer to a verdict on an array of n entries.
 abbrev pub verdictAnswer : ℕ → Verdict → Answer

@@ -19,9 +19,9 @@ use Rattle.words.specs.Laws.ArrayForest.{length-forestFirst, length-forestPast}
 use Rattle.words.specs.ArrayTheorems.{TextWith, Faulty, valid-exactly, passed-exactly, refused-exactly, text-for-has-array, text-for-each-once, forest-of-every-text}
 use Rattle.answer.specs.declared.Answer.{Answer}
 use Rattle.answer.specs.Answers.{acceptedWith, number}
-use Rattle.answer.specs.Checks.{contentAfter}
+use Rattle.answer.specs.AfterCall.{contentAfter}
 use Rattle.answer.specs.AcceptedContent.{Sized, written-first, written-rest}
-use Rattle.answer.specs.CheckLaws.{text-passes, forest-passes}
+use Rattle.checks.specs.CheckLaws.{text-passes, forest-passes}
 use Rattle.from_array.specs.Answers.{verdictAnswer, arrayChecked, reconstructAnswer, rightForestAnswer}
 
 -- An answer that refuses the array: document 01's number 6, 7 or 8.

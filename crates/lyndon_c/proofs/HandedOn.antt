@@ -4,7 +4,7 @@ use mathlib.Core.Path.{_≡_, ap, _∙_}
 use mathlib.Core.List.{List}
 use Prim.Native.Nat.{ℕ}
 use Rattle.answer.specs.declared.Answer.{Answer}
-use Rattle.answer.specs.Checks.{contentAfter}
+use Rattle.answer.specs.AfterCall.{contentAfter}
 use Rattle.lyndon_c.specs.declared.LyndonAnswer.{LyndonAnswer}
 use Rattle.lyndon_c.specs.Record.{recordOf}
 

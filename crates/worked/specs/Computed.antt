@@ -24,7 +24,7 @@ use Rattle.words.specs.ArrayTheorems.{TextWith, passed-exactly}
 use Rattle.answer.specs.declared.Answer.{Answer}
 use Rattle.answer.specs.Faults.{reasonFor}
 use Rattle.answer.specs.Answers.{refusedFor, number, value}
-use Rattle.answer.specs.Checks.{contentAfter}
+use Rattle.answer.specs.AfterCall.{contentAfter}
 use Rattle.answer.specs.AfterLaws.{content-refused}
 use Rattle.answer.specs.AcceptedContent.{Sized}
 use Rattle.from_array.specs.Answers.{verdictAnswer, arrayChecked}

@@ -11,7 +11,7 @@ use Rattle.words.specs.Laws.SpanLyndon.{letters}
 use Rattle.words.specs.Letters.{orderOf}
 use Rattle.words.specs.Decided.{decided-order}
 use Rattle.words.specs.Runs.{Entry, numbers}
-use Rattle.answer.specs.Checks.{written}
+use Rattle.answer.specs.AfterCall.{written}
 use Rattle.answer.specs.Content.{Kept, From, Written}
 use Rattle.array.specs.Calls.{runList, runNumbers, bothArrays}
 use Rattle.array.specs.Core.Fill.{Filled}

@@ -4,7 +4,7 @@ use mathlib.Core.Path.{sym, ap, _∙_}
 use lib.ListN.{length}
 use Rattle.answer.specs.declared.Answer.{Answer}
 use Rattle.answer.specs.AfterLaws.{content-refused}
-use Rattle.answer.specs.CheckLaws.{passing, failing, reader-passed}
+use Rattle.checks.specs.CheckLaws.{passing, failing, reader-passed}
 use Rattle.fasta.specs.Reader.{nameEndAfter}
 use borrow.Author.Needs.{needs}
 use Rattle.fasta.proofs.read_named.Statement.{statement}

@@ -5,7 +5,7 @@ use Prim.Native.Nat.{ℕ}
 use native.Mathlib.Omega.{arith}
 use lib.ListN.{length, drop}
 use Rattle.answer.specs.declared.Outcome.{Outcome}
-use Rattle.answer.specs.Checks.{written, contentIn}
+use Rattle.answer.specs.AfterCall.{written, contentIn}
 use Rattle.fasta.specs.Lines.{lettersIn}
 use Rattle.fasta.specs.Reader.{answerFor, recordEnding, lettersOf, nameEndIn}
 use Rattle.fasta.specs.Laws.Positions.{linesStart-within}

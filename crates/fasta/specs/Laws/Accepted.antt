@@ -12,8 +12,9 @@ use lib.Seq.{take-at, take-length}
 use Rattle.answer.specs.declared.Reason.the-variants.{ShortOutput, NoLetters, FileTooLong}
 use Rattle.answer.specs.declared.Outcome.the-variants.{Accepted}
 use Rattle.answer.specs.Answers.{acceptedWith}
-use Rattle.answer.specs.CheckLaws.{accepted-apart}
-use Rattle.answer.specs.Checks.{refusedIf, written}
+use Rattle.answer.specs.Answers.{accepted-apart}
+use Rattle.answer.specs.Answers.{refusedIf}
+use Rattle.answer.specs.AfterCall.{written}
 use Rattle.answer.specs.Limits.{maxLetters, maxInput}
 use Rattle.fasta.specs.declared.lines.Ending.{Ending}
 use Rattle.fasta.specs.declared.lines.Ending.the-variants.{RefusedAt, NextRecord, Finished}

@@ -6,7 +6,7 @@ use borrow.Author.Tests.{eq-eqb}
 use Rattle.words.specs.ArrayForest.{forestFirst, forestPast}
 use Rattle.answer.specs.declared.Answer.{Answer}
 use Rattle.answer.specs.Answers.{number, value}
-use Rattle.answer.specs.Checks.{contentAfter}
+use Rattle.answer.specs.AfterCall.{contentAfter}
 use Rattle.from_array.specs.Answers.{rightForestAnswer}
 use borrow.Author.Needs.{needs}
 use Rattle.from_array_examples.proofs.expect_forest.Statement.{statement}

@@ -7,7 +7,7 @@ use borrow.Author.Tests.{eq-eqb}
 use Rattle.answer.specs.declared.Answer.{Answer}
 use Rattle.answer.specs.Answers.{number, value}
 use Rattle.words.specs.ValidArray.{textFor}
-use Rattle.answer.specs.Checks.{contentAfter}
+use Rattle.answer.specs.AfterCall.{contentAfter}
 use Rattle.from_array.specs.Answers.{reconstructAnswer}
 use Rattle.from_array_examples.proofs.expect_text.Statement.{statement}
 use Rattle.from_array_examples.proofs.expect_text.Tie as tie

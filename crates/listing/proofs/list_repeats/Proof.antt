@@ -9,7 +9,7 @@ use lib.Seq.{length-take-le}
 use Rattle.answer.specs.declared.Outcome.{Outcome}
 use Rattle.answer.specs.declared.Outcome.the-variants.{Accepted}
 use Rattle.answer.specs.Answers.{numberIn, valueIn}
-use Rattle.answer.specs.Checks.{contentIn}
+use Rattle.answer.specs.AfterCall.{contentIn}
 use Rattle.answer.specs.Limits.{maxLetters}
 use Rattle.array.specs.Calls.{runList}
 use Rattle.fasta.specs.Reader.{nameEnd, readerAnswer, lettersOf, nameEndIn}

@@ -7,8 +7,8 @@ use native.Mathlib.Omega.{arith}
 use lib.ListN.{length}
 use Rattle.answer.specs.declared.Answer.{Answer}
 use Rattle.answer.specs.Answers.{acceptedWith, value}
-use Rattle.answer.specs.Checks.{written, contentAfter}
-use Rattle.answer.specs.CheckLaws.{runs-passes}
+use Rattle.answer.specs.AfterCall.{written, contentAfter}
+use Rattle.checks.specs.CheckLaws.{runs-passes}
 use Rattle.answer.specs.ContentLaws.{written-as}
 use Rattle.answer.specs.Limits.{maxLetters, runListLength, workLength}
 use Rattle.array.specs.Calls.{runList, runNumbers, runsAnswer}

@@ -2,7 +2,7 @@
 -- Assumes nothing.
 use mathlib.Core.Path.{sym, _∙_}
 use native.Mathlib.Omega.{arith}
-use Rattle.answer.specs.CheckLaws.{passing, failing}
+use Rattle.checks.specs.CheckLaws.{passing, failing}
 use Rattle.answer.specs.AfterLaws.{content-refused, content-accepted}
 use Rattle.answer.specs.Content.{TextRoom}
 use Rattle.array.proofs.AnswerLaws.{array-fits}

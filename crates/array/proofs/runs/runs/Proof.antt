@@ -5,7 +5,7 @@ use Prim.Native.Nat.{_≤_}
 use lib.ListN.{length}
 use Rattle.answer.specs.Answers.{acceptedWith}
 use Rattle.answer.specs.Limits.{maxLength, runListLength, workLength}
-use Rattle.answer.specs.CheckLaws.{passing, failing, runs-passed}
+use Rattle.checks.specs.CheckLaws.{passing, failing, runs-passed}
 use Rattle.answer.specs.AfterLaws.{content-refused, content-accepted}
 use borrow.Author.Needs.{needs}
 use Rattle.array.proofs.runs.runs.Statement.{statement}

@@ -6,7 +6,7 @@ use native.Mathlib.Omega.{arith}
 use lib.ListN.{length}
 use borrow.Author.Needs.{needs}
 use Rattle.answer.specs.AfterLaws.{content-refused, content-accepted}
-use Rattle.answer.specs.CheckLaws.{passing, failing, forest-passed}
+use Rattle.checks.specs.CheckLaws.{passing, failing, forest-passed}
 use Rattle.answer.specs.Content.{TextRoom}
 use Rattle.factors.proofs.left_forest.left_forest.Statement.{statement}
 use Rattle.factors.proofs.left_forest.left_forest.Tie as tie

@@ -5,7 +5,7 @@ use native.Mathlib.Omega.{arith}
 use lib.ListN.{length}
 use borrow.Author.Needs.{needs}
 use Rattle.answer.specs.AfterLaws.{content-refused, content-accepted}
-use Rattle.answer.specs.CheckLaws.{passing, failing, text-passed}
+use Rattle.checks.specs.CheckLaws.{passing, failing, text-passed}
 use Rattle.answer.specs.Content.{TextRoom}
 use Rattle.factors.proofs.Tabling.{tabled-written}
 use Rattle.factors.proofs.suffix_table.suffix_table.Statement.{statement}

@@ -10,7 +10,7 @@ use Rattle.words.specs.ArrayForest.{firstFor, pastFor, forestFirst, forestPast}
 use Rattle.answer.specs.Answers.{acceptedWith}
 use Rattle.answer.specs.Limits.{maxLength}
 use Rattle.answer.specs.AfterLaws.{content-refused, content-told, content-accepted}
-use Rattle.answer.specs.CheckLaws.{passing, failing, forest-passed}
+use Rattle.checks.specs.CheckLaws.{passing, failing, forest-passed}
 use Rattle.from_array.specs.Answers.{arrayChecked, rightForestAnswer}
 use Rattle.answer.specs.Content.{Holds}
 use Rattle.from_array.proofs.Calls.{Accepting, accepting}

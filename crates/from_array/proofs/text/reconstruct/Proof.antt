@@ -9,7 +9,7 @@ use Rattle.words.specs.ValidArray.{letterFor, textFor}
 use Rattle.answer.specs.Answers.{acceptedWith}
 use Rattle.answer.specs.Limits.{maxLength}
 use Rattle.answer.specs.AfterLaws.{content-refused, content-told, content-accepted}
-use Rattle.answer.specs.CheckLaws.{passing, failing, text-passed}
+use Rattle.checks.specs.CheckLaws.{passing, failing, text-passed}
 use Rattle.from_array.specs.Answers.{arrayChecked, reconstructAnswer}
 use Rattle.from_array.proofs.Calls.{Accepting, accepting}
 use Rattle.answer.specs.ContentLaws.{holds-written}

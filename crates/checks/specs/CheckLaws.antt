@@ -1,0 +1,159 @@
+-- Checks one after the other, what they make of the answer, and what is known where they pass.
+-- Assumes nothing.
+use mathlib.Core.Path.{_≡_, refl, sym, ap, _∙_}
+use mathlib.Core.Bool.{Bool, true, false}
+use Prim.Native.Nat.{ℕ, _<_, _≤_}
+use native.Mathlib.Omega.{arith}
+use borrow.Author.Tests.{lt-ltb, le-ltb, eq-eqb, ne-eqb, ltb-false, eqb-false}
+use lib.Dec.{ltb, eqb}
+use Rattle.answer.specs.declared.Answer.{Answer}
+use Rattle.answer.specs.declared.Outcome.{Outcome}
+use Rattle.answer.specs.declared.Outcome.the-variants.{Accepted, Refused}
+use Rattle.answer.specs.declared.Reason.{Reason}
+use Rattle.answer.specs.declared.Reason.the-variants.{EmptyText, TextTooLong, UnknownOrder, ShortOutput, ShortWork, FileTooLong}
+use Rattle.checks.specs.declared.Check.{Check}
+use Rattle.checks.specs.declared.Check.the-variants.{Passed, Failed}
+use Rattle.answer.specs.Answers.{acceptedWith, refusedFor, refusedIf, accepted-apart}
+use Rattle.answer.specs.AcceptedContent.{Sized}
+use Rattle.answer.specs.Limits.{maxLength, maxLetters, maxInput, runListLength, workLength}
+use Rattle.checks.specs.Checks.{limitChecked, lengthChecked, orderChecked, outputChecked, workChecked, inputChecked, textChecked, orderedTextChecked, forestChecked, runsChecked, readerChecked, answerTo, Adds}
+
+-- A check, and then another.
+pub then : {earlier mid now : Check} {check further : Answer → Answer} → Adds earlier mid check → Adds mid now further →
+    Adds earlier now (λ rest. check (further rest))
+then {further = further} a b = record { answer = λ rest. b .answer rest ∙ a .answer (further rest) }
+
+module _ {now : Check} {check : Answer → Answer} (all : Adds Passed now check) (rest : Answer) where
+  -- Checks that pass leave what follows.
+  pub passing : now ≡ Passed → check rest ≡ rest
+  passing e = sym (all .answer rest) ∙ ap (λ (c : Check). answerTo c rest) e
+
+  -- Checks of which one fails refuse.
+  pub failing : {reason : Reason} {position : ℕ} → now ≡ Failed reason position → check rest ≡ refusedFor reason position
+  failing e = sym (all .answer rest) ∙ ap (λ (c : Check). answerTo c rest) e
+
+-- What is known where a check and what follows it accept: its condition, and that what follows does.
+module _ (rest : Answer) where
+  pub if-cleared : (fails : Bool) (reason : Reason) (position : ℕ) → refusedIf fails reason position rest ≡ acceptedWith 0 →
+      (fails ≡ false) × (rest ≡ acceptedWith 0)
+  if-cleared true reason position e = absurd (accepted-apart (sym (ap (λ (a : Answer). a .outcome) e)))
+  if-cleared false reason position e = (refl, e)
+
+  pub order-cleared : (last order : ℕ) → orderChecked last order rest ≡ acceptedWith 0 → (order ≤ last) × (rest ≡ acceptedWith 0)
+  order-cleared last order e = let p = if-cleared (ltb last order) UnknownOrder 0 e in (ltb-false last order (p .0), p .1)
+
+  pub output-cleared : (needed given : ℕ) → outputChecked needed given rest ≡ acceptedWith 0 → (needed ≤ given) × (rest ≡ acceptedWith 0)
+  output-cleared needed given e = let p = if-cleared (ltb given needed) ShortOutput 0 e in (ltb-false given needed (p .0), p .1)
+
+  pub work-cleared : (needed given : ℕ) → workChecked needed given rest ≡ acceptedWith 0 → (needed ≤ given) × (rest ≡ acceptedWith 0)
+  work-cleared needed given e = let p = if-cleared (ltb given needed) ShortWork 0 e in (ltb-false given needed (p .0), p .1)
+
+pub length-cleared : (rest : Answer) (limit n : ℕ) → lengthChecked limit n rest ≡ acceptedWith 0 →
+    (0 < n) × (n ≤ limit) × (rest ≡ acceptedWith 0)
+length-cleared rest limit n e =
+    let some = if-cleared (limitChecked limit n rest) (eqb n 0) EmptyText 0 e in
+    let short = if-cleared rest (ltb limit n) TextTooLong 0 (some .1) in
+    (omega (arith, eqb-false n 0 (some .0)), ltb-false limit n (short .0), short .1)
+
+-- What is known where a call's checks pass.
+module _ {now : Check} where
+  sized-passed : (n : ℕ) (check : Answer → Answer) → Adds Passed now (λ rest. lengthChecked maxLength n (check rest)) → now ≡ Passed →
+      Sized n × (check (acceptedWith 0) ≡ acceptedWith 0)
+  sized-passed n check all e =
+      let known = length-cleared (check (acceptedWith 0)) maxLength n (passing all (acceptedWith 0) e) in
+      (record { some = known .0; short = known .1 }, known .2)
+
+  pub text-passed : (n given : ℕ) → Adds Passed now (textChecked n given) → now ≡ Passed → Sized n × (n ≤ given)
+  text-passed n given all e =
+      let sized = sized-passed n (outputChecked n given) all e in
+      (sized .0, output-cleared (acceptedWith 0) n given (sized .1) .0)
+
+  pub ordered-text-passed : (n order given : ℕ) → Adds Passed now (orderedTextChecked n order given) → now ≡ Passed →
+      Sized n × (order ≤ 1) × (n ≤ given)
+  ordered-text-passed n order given all e =
+      let sized = sized-passed n (λ rest. orderChecked 1 order (outputChecked n given rest)) all e in
+      let named = order-cleared (outputChecked n given (acceptedWith 0)) 1 order (sized .1) in
+      (sized .0, named .0, output-cleared (acceptedWith 0) n given (named .1) .0)
+
+  pub forest-passed : (n first past : ℕ) → Adds Passed now (forestChecked n first past) → now ≡ Passed → Sized n × (n ≤ first) × (n ≤ past)
+  forest-passed n first past all e =
+      let sized = sized-passed n (λ rest. outputChecked n first (outputChecked n past rest)) all e in
+      let in-first = output-cleared (outputChecked n past (acceptedWith 0)) n first (sized .1) in
+      (sized .0, in-first .0, output-cleared (acceptedWith 0) n past (in-first .1) .0)
+
+  pub runs-passed : (n list work : ℕ) → Adds Passed now (runsChecked n list work) → now ≡ Passed →
+      Sized n × (runListLength n ≤ list) × (workLength n ≤ work)
+  runs-passed n list work all e =
+      let sized = sized-passed n (λ rest. outputChecked (runListLength n) list (workChecked (workLength n) work rest)) all e in
+      let in-list = output-cleared (workChecked (workLength n) work (acceptedWith 0)) (runListLength n) list (sized .1) in
+      (sized .0, in-list .0, work-cleared (acceptedWith 0) (workLength n) work (in-list .1) .0)
+
+  pub reader-passed : (n given : ℕ) → Adds Passed now (readerChecked n given) → now ≡ Passed → (n ≤ maxInput) × (maxLetters ≤ given)
+  reader-passed n given all e =
+      let room = output-cleared (inputChecked n (acceptedWith 0)) maxLetters given (passing all (acceptedWith 0) e) in
+      (ltb-false maxInput n (if-cleared (acceptedWith 0) (ltb maxInput n) FileTooLong maxInput (room .1) .0), room .0)
+
+-- The checks, where their conditions hold.
+module _ (rest : Answer) where
+  pub length-passes : (limit n : ℕ) → ¬ (n ≡ 0) → n ≤ limit → lengthChecked limit n rest ≡ rest
+  length-passes limit n d h = simp (ne-eqb n 0 d, le-ltb limit n h)
+
+  pub order-passes : (last order : ℕ) → order ≤ last → orderChecked last order rest ≡ rest
+  order-passes last order h = simp (le-ltb last order h)
+
+  pub output-passes : (needed given : ℕ) → needed ≤ given → outputChecked needed given rest ≡ rest
+  output-passes needed given h = simp (le-ltb given needed h)
+
+  pub work-passes : (needed given : ℕ) → needed ≤ given → workChecked needed given rest ≡ rest
+  work-passes needed given h = simp (le-ltb given needed h)
+
+-- A call's checks pass where each buffer has the places needed.
+module _ (n : ℕ) (sized : Sized n) where
+  sized-passes : (rest : Answer) → lengthChecked maxLength n rest ≡ rest
+  sized-passes rest = length-passes rest maxLength n (λ e. omega (arith, sized .some)) (sized .short)
+
+  module _ (rest : Answer) where
+    pub text-passes : (given : ℕ) → n ≤ given → textChecked n given rest ≡ rest
+    text-passes given room = sized-passes _ ∙ output-passes rest n given room
+
+    pub ordered-text-passes : (order given : ℕ) → order ≤ 1 → n ≤ given → orderedTextChecked n order given rest ≡ rest
+    ordered-text-passes order given named room = sized-passes _ ∙ order-passes _ 1 order named ∙ output-passes rest n given room
+
+    pub forest-passes : (first past : ℕ) → n ≤ first → n ≤ past → forestChecked n first past rest ≡ rest
+    forest-passes first past first-room past-room = sized-passes _ ∙ output-passes _ n first first-room ∙ output-passes rest n past past-room
+
+    pub runs-passes : (list work : ℕ) → runListLength n ≤ list → workLength n ≤ work → runsChecked n list work rest ≡ rest
+    runs-passes list work list-room work-room =
+        sized-passes _ ∙ output-passes _ (runListLength n) list list-room ∙ work-passes rest (workLength n) work work-room
+
+-- The checks, where they refuse: together with the laws above, each is given whenever its condition holds, and never otherwise.
+module _ (rest : Answer) where
+  pub length-empty : (limit n : ℕ) → n ≡ 0 → lengthChecked limit n rest ≡ refusedFor EmptyText 0
+  length-empty limit n e = simp (eq-eqb n 0 e)
+
+  pub length-over : (limit n : ℕ) → ¬ (n ≡ 0) → limit < n → lengthChecked limit n rest ≡ refusedFor TextTooLong 0
+  length-over limit n d h = simp (ne-eqb n 0 d, lt-ltb limit n h)
+
+  pub order-unknown : (last order : ℕ) → last < order → orderChecked last order rest ≡ refusedFor UnknownOrder 0
+  order-unknown last order h = simp (lt-ltb last order h)
+
+  pub output-short : (needed given : ℕ) → given < needed → outputChecked needed given rest ≡ refusedFor ShortOutput 0
+  output-short needed given h = simp (lt-ltb given needed h)
+
+  pub work-short : (needed given : ℕ) → given < needed → workChecked needed given rest ≡ refusedFor ShortWork 0
+  work-short needed given h = simp (lt-ltb given needed h)
+
+-- What an answer says of the checks before it.
+abbrev saidBy : Outcome → Check
+saidBy (Accepted count) = Passed
+saidBy (Refused reason position) = Failed reason position
+
+-- A check that says what it adds says one thing only: `Adds` settles the result of a check.
+pub adds-settles : {earlier now now′ : Check} {check : Answer → Answer} → Adds earlier now check → Adds earlier now′ check → now ≡ now′
+adds-settles {now = now} {now′ = now′} a b = told now now′ (a .answer (acceptedWith 0) ∙ sym (b .answer (acceptedWith 0)))
+  where
+    told : (c d : Check) → answerTo c (acceptedWith 0) ≡ answerTo d (acceptedWith 0) → c ≡ d
+    told Passed Passed e = refl
+    told Passed (Failed r p) e = ap (λ (x : Answer). saidBy (x .outcome)) e
+    told (Failed r p) Passed e = ap (λ (x : Answer). saidBy (x .outcome)) e
+    told (Failed r p) (Failed r′ p′) e = ap (λ (x : Answer). saidBy (x .outcome)) e

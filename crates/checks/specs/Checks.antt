@@ -1,0 +1,68 @@
+-- The checks of document 01's table ("Where each check stands"), each with what follows where it does not refuse.
+-- Assumes nothing.
+use mathlib.Core.Path.{_≡_}
+use Prim.Native.Nat.{ℕ}
+use lib.Dec.{ltb, eqb}
+use Rattle.answer.specs.declared.Answer.{Answer}
+use Rattle.checks.specs.declared.Check.{Check}
+use Rattle.checks.specs.declared.Check.the-variants.{Passed, Failed}
+use Rattle.answer.specs.declared.Reason.the-variants.{EmptyText, TextTooLong, UnknownOrder, ShortOutput, ShortWork, FileTooLong}
+use Rattle.answer.specs.Answers.{refusedFor, refusedIf}
+use Rattle.answer.specs.Limits.{maxLength, maxLetters, maxInput, runListLength, workLength}
+
+-- Refusal 1: a text or array of n letters or entries.
+abbrev pub emptyChecked : ℕ → Answer → Answer
+emptyChecked n = refusedIf (eqb n 0) EmptyText 0
+
+-- Refusal 2: at most `limit` of them.
+abbrev pub limitChecked : ℕ → ℕ → Answer → Answer
+limitChecked limit n = refusedIf (ltb limit n) TextTooLong 0
+
+-- Refusals 1 and 2.
+abbrev pub lengthChecked : ℕ → ℕ → Answer → Answer
+lengthChecked limit n rest = emptyChecked n (limitChecked limit n rest)
+
+-- Refusal 3: the order number, at most `last`.
+abbrev pub orderChecked : ℕ → ℕ → Answer → Answer
+orderChecked last order = refusedIf (ltb last order) UnknownOrder 0
+
+-- Refusal 4: an output buffer that has `given` places and needs `needed`.
+abbrev pub outputChecked : ℕ → ℕ → Answer → Answer
+outputChecked needed given = refusedIf (ltb given needed) ShortOutput 0
+
+-- Refusal 5: the work buffer.
+abbrev pub workChecked : ℕ → ℕ → Answer → Answer
+workChecked needed given = refusedIf (ltb given needed) ShortWork 0
+
+-- Refusal 15: the input of the reader, of n bytes.
+abbrev pub inputChecked : ℕ → Answer → Answer
+inputChecked n = refusedIf (ltb maxInput n) FileTooLong maxInput
+
+-- 1, 2 and 4: a call on n letters or entries that needs as many places.
+abbrev pub textChecked : ℕ → ℕ → Answer → Answer
+textChecked n given rest = lengthChecked maxLength n (outputChecked n given rest)
+
+-- 1, 2, 3 and 4: such a call that has an order number, 0 or 1.
+abbrev pub orderedTextChecked : ℕ → ℕ → ℕ → Answer → Answer
+orderedTextChecked n order given rest = lengthChecked maxLength n (orderChecked 1 order (outputChecked n given rest))
+
+-- 1, 2 and 4, of both buffers: a forest of n letters or entries.
+abbrev pub forestChecked : ℕ → ℕ → ℕ → Answer → Answer
+forestChecked n first past rest = textChecked n first (outputChecked n past rest)
+
+-- 1, 2, 4 and 5: the runs of n letters, with the lengths of the list and of the work buffer.
+abbrev pub runsChecked : ℕ → ℕ → ℕ → Answer → Answer
+runsChecked n list work rest = lengthChecked maxLength n (outputChecked (runListLength n) list (workChecked (workLength n) work rest))
+
+-- 4 and 15: the reader, on an input of n bytes.
+abbrev pub readerChecked : ℕ → ℕ → Answer → Answer
+readerChecked n given rest = outputChecked maxLetters given (inputChecked n rest)
+
+-- The answer where `rest` follows the checks so far.
+abbrev pub answerTo : Check → Answer → Answer
+answerTo Passed rest = rest
+answerTo (Failed reason position) rest = refusedFor reason position
+
+-- A check more: where those before it pass, the answer is this check's, else the answer before.
+pub record Adds (earlier now : Check) (check : Answer → Answer) : Type 0 where
+  pub answer : (rest : Answer) → answerTo now rest ≡ answerTo earlier (check rest)

@@ -1,0 +1,142 @@
+// The checks that calls begin with: together for each kind of call, below one by one. A check takes what those before it say, and the first that
+// fails is kept. Contracts cite `specs/Checks.antt`. Nothing is assumed.
+pub mod limits;
+
+use answer::Reason;
+ghost use Rattle.answer.specs.Limits.{runListLength, workLength};
+ghost use Rattle.answer.specs.Answers.{refusedIf};
+ghost use Rattle.checks.specs.Checks.{Adds, emptyChecked, limitChecked, lengthChecked, orderChecked, outputChecked, workChecked, inputChecked, textChecked, orderedTextChecked, forestChecked, runsChecked, readerChecked};
+ghost use Rattle.checks.specs.declared.Check.the-variants.{Passed};
+
+// What the checks so far say.
+pub enum Check {
+    Passed,
+    Failed { reason: Reason, position: u32 },
+}
+
+// 1, 2 and 4: a call on n letters or entries that needs as many places.
+pub fn text(n: usize, given: usize) -> Check
+    ensures check { λ r. ⌜ Adds Passed r (textChecked n given) ⌝ }
+{
+    output(length(Check::Passed, limits::MAX_LENGTH, n), n, given)
+}
+
+// 1, 2, 3 and 4: such a call on letters that has an order number, 0 or 1.
+pub fn ordered_text(letters: usize, number: u32, given: usize) -> Check
+    ensures check { λ r. ⌜ Adds Passed r (orderedTextChecked letters number given) ⌝ }
+{
+    let sized = length(Check::Passed, limits::MAX_LENGTH, letters);
+    let named = order(sized, 1, number);
+    output(named, letters, given)
+}
+
+// 1, 2 and 4, of both buffers: a forest of n letters or entries.
+pub fn forest(n: usize, first: usize, past: usize) -> Check
+    ensures check { λ r. ⌜ Adds Passed r (forestChecked n first past) ⌝ }
+{
+    output(text(n, first), n, past)
+}
+
+// 1, 2, 4 and 5: the runs of n letters, with the lengths of list and work buffer.
+pub fn runs(n: usize, list: usize, buffer: usize) -> Check
+    ensures check { λ r. ⌜ Adds Passed r (runsChecked n list buffer) ⌝ }
+{
+    let listed = run_list(length(Check::Passed, limits::MAX_LENGTH, n), n, list);
+    run_work(listed, n, buffer)
+}
+
+// 4 and 15: the reader, on an input of n bytes.
+pub fn reader(n: usize, given: usize) -> Check
+    ensures check { λ r. ⌜ Adds Passed r (readerChecked n given) ⌝ }
+{
+    let roomy = output(Check::Passed, limits::MAX_LETTERS, given);
+    input(roomy, n)
+}
+
+// A check that fails or not, with its reason and position.
+fn refuse_if(earlier: Check, fails: bool, reason: Reason, position: u32) -> Check
+    ensures check { λ r. ⌜ Adds earlier r (refusedIf fails reason position) ⌝ }
+{
+    match earlier {
+        Check::Passed => {
+            if fails {
+                Check::Failed { reason, position }
+            } else {
+                Check::Passed
+            }
+        }
+        Check::Failed {
+            reason: _,
+            position: _,
+        } => earlier,
+    }
+}
+
+// 1: a text or array of n letters or entries is not empty.
+fn nonempty(earlier: Check, n: usize) -> Check
+    ensures check { λ r. ⌜ Adds earlier r (emptyChecked n) ⌝ }
+{
+    refuse_if(earlier, n == 0, Reason::EmptyText, 0)
+}
+
+// 2: it has at most `limit` of them.
+fn at_most(earlier: Check, limit: usize, n: usize) -> Check
+    ensures check { λ r. ⌜ Adds earlier r (limitChecked limit n) ⌝ }
+{
+    refuse_if(earlier, limit < n, Reason::TextTooLong, 0)
+}
+
+// 1 and 2.
+fn length(earlier: Check, limit: usize, n: usize) -> Check
+    ensures check { λ r. ⌜ Adds earlier r (lengthChecked limit n) ⌝ }
+{
+    at_most(nonempty(earlier, n), limit, n)
+}
+
+// 3: the order number is at most `last`.
+fn order(earlier: Check, last: u32, order: u32) -> Check
+    ensures check { λ r. ⌜ Adds earlier r (orderChecked last order) ⌝ }
+{
+    refuse_if(earlier, last < order, Reason::UnknownOrder, 0)
+}
+
+// 4: an output buffer has the places needed.
+fn output(earlier: Check, needed: usize, given: usize) -> Check
+    ensures check { λ r. ⌜ Adds earlier r (outputChecked needed given) ⌝ }
+{
+    refuse_if(earlier, given < needed, Reason::ShortOutput, 0)
+}
+
+// 5: the work buffer has the places needed.
+fn work(earlier: Check, needed: usize, given: usize) -> Check
+    ensures check { λ r. ⌜ Adds earlier r (workChecked needed given) ⌝ }
+{
+    refuse_if(earlier, given < needed, Reason::ShortWork, 0)
+}
+
+// 4, of the run list of n letters; the test is one of quotients, so that no product wraps.
+fn run_list(earlier: Check, n: usize, given: usize) -> Check
+    ensures check { λ r. ⌜ Adds earlier r (outputChecked (runListLength n) given) ⌝ }
+{
+    output(earlier, n, given / limits::LIST_PLACES)
+}
+
+// 5, of the work buffer of the runs of n letters; of quotients too.
+fn run_work(earlier: Check, n: usize, given: usize) -> Check
+    ensures check { λ r. ⌜ Adds earlier r (workChecked (workLength n) given) ⌝ }
+{
+    work(earlier, n, given / limits::WORK_PLACES)
+}
+
+// 15: the input of the reader has at most as many bytes as its limit.
+fn input(earlier: Check, n: usize) -> Check
+    ensures check { λ r. ⌜ Adds earlier r (inputChecked n) ⌝ }
+{
+    let fails = limits::MAX_INPUT < n;
+    refuse_if(
+        earlier,
+        fails,
+        Reason::FileTooLong,
+        limits::MAX_INPUT as u32,
+    )
+}

@@ -1,0 +1,25 @@
+// The limits of document 01 that the calls share, named here and in the file `Limits` of `answer`. Nothing is assumed.
+ghost use mathlib.Core.Path.{_≡_};
+ghost use Rattle.answer.specs.Limits.{maxLetters};
+
+// The most letters of a text, or entries of an array.
+pub const MAX_LENGTH: usize = 1_048_576;
+
+// The most letters that the reader hands on, and the length of the buffer that it needs for them.
+pub const MAX_LETTERS: usize = 2_048;
+
+// The most bytes of a FASTA input.
+pub const MAX_INPUT: usize = 8_192;
+
+// The places of the run list for each letter of the text.
+pub const LIST_PLACES: usize = 6;
+
+// The places of the work buffer of the runs for each letter.
+pub const WORK_PLACES: usize = 2;
+
+// `MAX_LETTERS`, as the limit that contracts name.
+pub fn max_letters() -> usize
+    ensures limit { λ r. ⌜ r ≡ maxLetters ⌝ }
+{
+    MAX_LETTERS
+}
