@@ -1,15 +1,18 @@
 -- The join loop: its start, a factor joined, and each way it ends.
 -- Assumes nothing.
 use mathlib.Core.Path.{_≡_, subst, sym, ap, _∙_}
+use mathlib.Core.Logic.{_⊎_, ⊎-elim}
 use mathlib.Core.List.{List}
 use Prim.Native.Nat.{ℕ, suc, _+_, _<_, _≤_}
 use native.Mathlib.Omega.{arith}
 use lib.ListN.{length, getD}
+use denote.Enum.Declared.{tagOf}
 use Rattle.words.specs.Laws.Position.{SpanLyndon}
 use Rattle.words.specs.Laws.SpanLyndon.{letters}
 use Rattle.words.specs.Laws.SuffixOrder.{NextSmaller}
 use Rattle.words.specs.Letters.{orderOf}
 use Rattle.letters.specs.declared.Comparison.{Comparison}
+use Rattle.letters.proofs.Comparison.{the-type}
 use Rattle.letters.specs.declared.Comparison.the-variants.{Below, Same, Above}
 use Rattle.answer.specs.ContentLaws.{kept-all, kept-then, kept-where}
 use Rattle.array.specs.Core.Join.{Stopped, JoinedTo, Agreeing}
@@ -62,28 +65,28 @@ join-start {order} {x} {buf} {i} l r =
           joining-start l (subst (λ (j : ℕ). RowsOf order x buf j) e r);
     })
 
--- The comparison stopped the joining: the word ends at its next smaller suffix.
-joined-stopped : {order : ℕ} {x before buf : List ℕ} {i j k₀ g₀ l s k : ℕ} {stop : Comparison} → Comparing order x before buf i j k₀ g₀ l s →
-    Agreeing x i j k × NextSmaller (orderOf order) (letters 0 x) (length x) i j × Stopped order x i j k stop →
-    JoinedTo order x before buf i (record { end = j; agreed = k; part = g₀; stop = stop })
-joined-stopped {order} {x} {buf = buf} {i = i} {j} {k₀} {g₀} {k = k} w c =
-    record {
-      changed = w .loop .changed;
-      joining =
-          joining-agreed (w .loop .joining) (λ q. c .0 .agree) (λ q. c .0 .within);
-      next = c .1;
-      stopped = c .2;
-    }
+-- The comparison did not say below, as its tag tells: the word ends at its next smaller suffix.
+pub joined-stopped : {order : ℕ} {x before buf : List ℕ} {i j k₀ g₀ l s k : ℕ} {v : Comparison} → Comparing order x before buf i j k₀ g₀ l s →
+    Compared order x i j k v → (tagOf the-type v ≡ 1) ⊎ (tagOf the-type v ≡ 2) →
+    JoinedTo order x before buf i (record { end = j; agreed = k; part = g₀; stop = v })
+joined-stopped {order} {x} {before} {buf} {i} {j} {k₀} {g₀} {k = k} {v} w = go v
+  where
+    ended : (u : Comparison) → Agreeing x i j k × NextSmaller (orderOf order) (letters 0 x) (length x) i j × Stopped order x i j k u →
+        JoinedTo order x before buf i (record { end = j; agreed = k; part = g₀; stop = u })
+    ended u c =
+        record {
+          changed = w .loop .changed;
+          joining =
+              joining-agreed (w .loop .joining) (λ q. c .0 .agree) (λ q. c .0 .within);
+          next = c .1;
+          stopped = c .2;
+        }
 
--- It said same.
-pub joined-same : {order : ℕ} {x before buf : List ℕ} {i j k₀ g₀ l s k : ℕ} {v : Comparison} → Comparing order x before buf i j k₀ g₀ l s →
-    Compared order x i j k v → v ≡ Same → JoinedTo order x before buf i (record { end = j; agreed = k; part = g₀; stop = Same })
-joined-same {order} {x} {i = i} {j} {k = k} w told e = joined-stopped w (subst (Compared order x i j k) e told)
-
--- It said above.
-pub joined-above : {order : ℕ} {x before buf : List ℕ} {i j k₀ g₀ l s k : ℕ} {v : Comparison} → Comparing order x before buf i j k₀ g₀ l s →
-    Compared order x i j k v → v ≡ Above → JoinedTo order x before buf i (record { end = j; agreed = k; part = g₀; stop = Above })
-joined-above {order} {x} {i = i} {j} {k = k} w told e = joined-stopped w (subst (Compared order x i j k) e told)
+    go : (u : Comparison) → Compared order x i j k u → (tagOf the-type u ≡ 1) ⊎ (tagOf the-type u ≡ 2) →
+        JoinedTo order x before buf i (record { end = j; agreed = k; part = g₀; stop = u })
+    go Below c tag = absurd (⊎-elim (λ e. omega arith) (λ e. omega arith) tag)
+    go Same c tag = ended Same c
+    go Above c tag = ended Above c
 
 -- The text ended.
 pub joined-end : {order : ℕ} {x before buf : List ℕ} {i j k g : ℕ} → JoinLoop order x before buf i j k g → length x ≤ j →

@@ -5,6 +5,7 @@ pub mod LastPlace
 pub mod JoiningLaws
 pub mod Leaving
 pub mod Shortcut
+pub mod Settled
 pub mod Entries
 pub mod RestoredPlace
 pub mod Comparing

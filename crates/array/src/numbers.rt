@@ -19,11 +19,13 @@ pub(crate) fn join(text: &[u32], order: u32, buf: &mut [u32], i: usize) -> Joine
     requires { ⌜ JoinReady order (now text) (now buf) i ⌝ }
     ensures content { λ r. ⌜ JoinedTo order (now (text .entry)) (now (buf .entry)) (now (buf .exit)) i r ⌝ }
 {
-    let n = text.len();
     let mut j = i + 1;
     let mut k: usize = 0;
     let mut part: usize = 0;
-    while j < n {
+    let stop = loop {
+        if text.len() <= j {
+            break Comparison::Above;
+        }
         // The lengths of the next factor and of the word so far, and what is remembered of the factor.
         let factor = letters::wide(buf[j]);
         let word = j - i;
@@ -34,10 +36,9 @@ pub(crate) fn join(text: &[u32], order: u32, buf: &mut [u32], i: usize) -> Joine
             if factor <= k {
                 if word == factor {
                     break Comparison::Same;
-                } else {
-                    // The factor is a proper prefix of the word.
-                    break Comparison::Above;
                 }
+                // The factor is a proper prefix of the word.
+                break Comparison::Above;
             }
             let a = text[i + k];
             let b = text[j + k];
@@ -45,56 +46,32 @@ pub(crate) fn join(text: &[u32], order: u32, buf: &mut [u32], i: usize) -> Joine
                 if word <= k {
                     break Comparison::Below;
                 }
-                if letters::smaller(a, b, order) {
-                    break Comparison::Below;
-                }
-                break Comparison::Above;
+                break letters::compare(a, b, order);
             }
             k += 1;
             if k == word {
-                if word < factor {
-                    if known < word {
-                        break Comparison::Below;
-                    }
-                    if word + letters::wide(buf[j + word]) == factor {
-                        k = word + known;
-                        break Comparison::Below;
-                    }
+                let settled = places::settled(buf, j, word, factor, known);
+                if word <= settled {
+                    k = settled;
+                    break Comparison::Below;
                 }
             }
         };
-        match outcome {
-            Comparison::Below => {
-                places::restore(buf, j, factor);
-                part = k;
-                if known < k {
-                    k = known;
-                }
-                j += factor;
-            }
-            Comparison::Same => {
-                return Joined {
-                    end: j,
-                    agreed: k,
-                    part,
-                    stop: Comparison::Same,
-                };
-            }
-            Comparison::Above => {
-                return Joined {
-                    end: j,
-                    agreed: k,
-                    part,
-                    stop: Comparison::Above,
-                };
-            }
+        let Comparison::Below = outcome else {
+            break outcome;
+        };
+        places::restore(buf, j, factor);
+        part = k;
+        if known < k {
+            k = known;
         }
-    }
+        j += factor;
+    };
     Joined {
         end: j,
         agreed: k,
         part,
-        stop: Comparison::Above,
+        stop,
     }
 }
 

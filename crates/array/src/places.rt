@@ -1,8 +1,9 @@
 // The places of the output buffer while the array is being made: small functions that know nothing of letters.
 ghost use mathlib.Core.Path.{_≡_};
-ghost use Prim.Native.Nat.{_+_, _≤_, min};
+ghost use Prim.Native.Nat.{_+_, _≤_, _<_, min};
 ghost use lib.ListN.{length};
-ghost use Rattle.array.specs.Core.Place.{rememberedAt, restoredAt, StoreReady, storedAt};
+ghost use Rattle.answer.specs.Limits.{maxLength};
+ghost use Rattle.array.specs.Core.Place.{rememberedAt, settledAt, restoredAt, StoreReady, storedAt};
 ghost use Rattle.array.specs.Core.Fill.{HasRows, AllRestored};
 
 // The smaller of two numbers.
@@ -22,6 +23,24 @@ pub(crate) fn remembered(buf: &[u32], j: usize, l: usize) -> usize
 {
     if 1 < l {
         return letters::wide(buf[j + l - 1]);
+    }
+    0
+}
+
+// The word of length w is a prefix of the factor of length l at j: how far the two agree, where s, which is remembered of the factor, tells
+// it; else 0.
+pub(crate) fn settled(buf: &[u32], j: usize, w: usize, l: usize, s: usize) -> usize
+    requires { ⌜ (j + l ≤ length (now buf)) × (l ≤ maxLength) × (s < l) ⌝ }
+    ensures result { λ r. ⌜ r ≡ settledAt (now (buf .entry)) j w l s ⌝ }
+{
+    if l <= w {
+        return 0;
+    }
+    if s < w {
+        return w;
+    }
+    if w + letters::wide(buf[j + w]) == l {
+        return w + s;
     }
     0
 }

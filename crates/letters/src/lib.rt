@@ -28,7 +28,7 @@ pub fn wide(x: u32) -> usize
 }
 
 // Letter a is below letter b: in order 0 the smaller number, else the greater one.
-pub fn smaller(a: u32, b: u32, order: u32) -> bool
+fn smaller(a: u32, b: u32, order: u32) -> bool
     ensures answer { λ r. ⌜ r ≡ isBelow (decided-order order .compare a b) ⌝ }
 {
     if order == 0 {

@@ -3,13 +3,19 @@
 use mathlib.Core.Bool.{cond}
 use mathlib.Core.List.{List}
 use Prim.Native.Nat.{ℕ, _+_, _<_, _≤_, _-_}
-use lib.Dec.{ltb}
+use lib.Dec.{ltb, eqb}
 use lib.ListN.{length, getD, set}
 use Rattle.answer.specs.Limits.{maxLength}
 
 -- The number remembered at the last place of the factor of length l at j; 0 for a single letter.
 abbrev pub rememberedAt : List ℕ → ℕ → ℕ → ℕ
 rememberedAt buf j l = cond (ltb 1 l) (getD buf (j + l - 1) 0) 0
+
+-- The word of length w is a prefix of the factor of length l at j: how far the two agree, where s, which is remembered of the factor, tells it;
+-- 0 where it does not, or where the word is no shorter than the factor.
+abbrev pub settledAt : List ℕ → ℕ → ℕ → ℕ → ℕ → ℕ
+settledAt buf j w l s =
+    cond (ltb w l) (cond (ltb s w) w (cond (eqb (w + getD buf (j + w) 0) l) (w + s) 0)) 0
 
 -- The buffer after the last place of the factor of length l at j has its entry 1 back.
 abbrev pub restoredAt : List ℕ → ℕ → ℕ → List ℕ

@@ -7,45 +7,41 @@ use Prim.Native.Nat.{_+_, _-_}
 use lib.ListN.{length}
 use Rattle.array.specs.Core.Join.{Agreeing}
 use Rattle.array.proofs.Comparing.{JoinLoop, Comparing, comparing, factor-fits, agreeing-start}
-use Rattle.array.proofs.ComparisonEnds.{Compared, agree-more, ended-same, ended-above, past-below, letter-below, letter-above}
-use Rattle.array.proofs.ComparisonEnds.{word-below, leap-below}
-use Rattle.array.proofs.JoinSteps.{join-start, join-step, joined-same, joined-above, joined-end}
+use Rattle.array.proofs.ComparisonEnds.{Compared, agree-more, ended-same, ended-above, past-below, letter-told, settled-below}
+use Rattle.array.proofs.JoinSteps.{join-start, join-step, joined-stopped, joined-end}
 use Rattle.array.proofs.bytes.join.Statement.{statement}
 use Rattle.array.proofs.bytes.join.Tie as tie
 
 abbrev Inv-loop2 : tie.InvT-loop2
-Inv-loop2 text order buf i n j k₀ part factor word known k = Agreeing text i j k
+Inv-loop2 text order buf i j k₀ part factor word known k = Agreeing text i j k
 
 abbrev μ-loop2 : tie.MeasureT-loop2
-μ-loop2 text order buf i n j k₀ part factor word known k = factor - k
+μ-loop2 text order buf i j k₀ part factor word known k = factor - k
 
 abbrev Inv-loop : tie.InvT-loop
-Inv-loop text order buf₀ i n j₀ k₀ part₀ buf j k part = JoinLoop order text buf₀ buf i j k part
+Inv-loop text order buf₀ i j₀ k₀ part₀ buf j k part = JoinLoop order text buf₀ buf i j k part
 
 abbrev μ-loop : tie.MeasureT-loop
-μ-loop text order buf₀ i n j₀ k₀ part₀ buf j k part = length text - j
+μ-loop text order buf₀ i j₀ k₀ part₀ buf j k part = length text - j
 
 -- The moments that facts are told at, each found from a later one: the call, the head of the outer loop, the beginning of the
--- comparison, a turn of it inside the factor, one in which the letters agreed, and the end of the comparison.
+-- comparison, a turn of it inside the factor, and the end of the comparison.
 abbrev call : tie.At-loop Inv-loop2 μ-loop2 Inv-loop μ-loop → tie.Start Inv-loop2 μ-loop2 Inv-loop μ-loop
 call c = c .before .before .before
 
 abbrev head : tie.After-remembered Inv-loop2 μ-loop2 Inv-loop μ-loop → tie.At-loop Inv-loop2 μ-loop2 Inv-loop μ-loop
 head c = c .before .before .before .before .before
 
-abbrev begun : tie.Else1 Inv-loop2 μ-loop2 Inv-loop μ-loop → tie.After-remembered Inv-loop2 μ-loop2 Inv-loop μ-loop
+abbrev begun : tie.Else2 Inv-loop2 μ-loop2 Inv-loop μ-loop → tie.After-remembered Inv-loop2 μ-loop2 Inv-loop μ-loop
 begun c = c .before .before
 
-abbrev turn : tie.Else3 Inv-loop2 μ-loop2 Inv-loop μ-loop → tie.Else1 Inv-loop2 μ-loop2 Inv-loop μ-loop
+abbrev turn : tie.Else4 Inv-loop2 μ-loop2 Inv-loop μ-loop → tie.Else2 Inv-loop2 μ-loop2 Inv-loop μ-loop
 turn c = c .before .before .before .before .before
 
-abbrev agreed : tie.Else8 Inv-loop2 μ-loop2 Inv-loop μ-loop → tie.Else3 Inv-loop2 μ-loop2 Inv-loop μ-loop
-agreed c = c .before .before .before
-
-abbrev began : tie.Joined1 Inv-loop2 μ-loop2 Inv-loop μ-loop → tie.After-remembered Inv-loop2 μ-loop2 Inv-loop μ-loop
+abbrev began : tie.Joined2 Inv-loop2 μ-loop2 Inv-loop μ-loop → tie.After-remembered Inv-loop2 μ-loop2 Inv-loop μ-loop
 began c = c .before .before
 
-abbrev ended : tie.Joined10 Inv-loop2 μ-loop2 Inv-loop μ-loop → tie.Joined1 Inv-loop2 μ-loop2 Inv-loop μ-loop
+abbrev ended : tie.Joined8 Inv-loop2 μ-loop2 Inv-loop μ-loop → tie.Joined2 Inv-loop2 μ-loop2 Inv-loop μ-loop
 ended c = c .before .before .before .before .before .before .before
 
 -- What is known where the comparison begins.
@@ -55,26 +51,24 @@ facts : (c : tie.After-remembered Inv-loop2 μ-loop2 Inv-loop μ-loop) →
 facts c = search comparing
 
 -- One letter more agrees.
-more : (c : tie.Else3 Inv-loop2 μ-loop2 Inv-loop μ-loop) →
+more : (c : tie.Else4 Inv-loop2 μ-loop2 Inv-loop μ-loop) →
     Agreeing (call (head (begun (turn c))) .args .text .now) (call (head (begun (turn c))) .args .i) (head (begun (turn c)) .loop .j)
     (turn c .before .loop2 .k + 1)
 more c =
     agree-more (facts (begun (turn c))) (turn c .before .loop2 .inv) (c .before .before .before .letter .ensures)
-    (c .before .letter2 .ensures) (turn c .if1 .left) (c .if3 .left)
+    (c .before .letter2 .ensures) (turn c .if2 .left) (c .if4 .left)
 
 -- What the comparison says: each way out of it, by the tests on that way.
-told : (c : tie.Joined1 Inv-loop2 μ-loop2 Inv-loop μ-loop) →
+told : (c : tie.Joined2 Inv-loop2 μ-loop2 Inv-loop μ-loop) →
     Compared (call (head (began c)) .args .order) (call (head (began c)) .args .text .now) (call (head (began c)) .args .i)
-    (head (began c) .loop .j) (c .if1 .k) (c .if1 .outcome)
+    (head (began c) .loop .j) (c .if2 .k) (c .if2 .outcome)
 told c =
     let w = facts (began c) in
     let g = c .before .loop2 .inv in
     ⊎-elim (λ r. search (ended-same w g))
     (⊎-elim (λ r. search (ended-above w g))
-    (⊎-elim (λ r. search (past-below w g))
-    (⊎-elim (λ r. search (letter-below w g))
-    (⊎-elim (λ r. search (letter-above w g)) (⊎-elim (λ r. search (word-below w g)) (λ r. search (leap-below w g)))))))
-    (c .if1 .came)
+    (⊎-elim (λ r. search (past-below w g)) (⊎-elim (λ r. search (letter-told w g)) (λ r. search (settled-below w g)))))
+    (c .if2 .came)
 
 add-j : tie.Need-add-j Inv-loop2 μ-loop2 Inv-loop μ-loop
 add-j c = search needs
@@ -118,51 +112,28 @@ shared-slice-read-letter-2 c = omega (arith, facts (begun (c .before .before .be
 letter-requires-2 : tie.Need-letter-requires-2 Inv-loop2 μ-loop2 Inv-loop μ-loop
 letter-requires-2 c κs = search needs
 
-smaller-requires : tie.Need-smaller-requires Inv-loop2 μ-loop2 Inv-loop μ-loop
-smaller-requires c κs = search needs
+compare-requires : tie.Need-compare-requires Inv-loop2 μ-loop2 Inv-loop μ-loop
+compare-requires c κs = search needs
 
 add-k : tie.Need-add-k Inv-loop2 μ-loop2 Inv-loop μ-loop
 add-k c = search needs
 
-add-wide : tie.Need-add-wide Inv-loop2 μ-loop2 Inv-loop μ-loop
-add-wide c = search needs
-
-mul-wide-2 : tie.Need-mul-wide-2 Inv-loop2 μ-loop2 Inv-loop μ-loop
-mul-wide-2 c = search needs
-
-slice-read-wide-2 : tie.Need-slice-read-wide-2 Inv-loop2 μ-loop2 Inv-loop μ-loop
-slice-read-wide-2 c = omega (arith, facts (begun (turn (agreed (c .before)))))
-
-wide-requires-2 : tie.Need-wide-requires-2 Inv-loop2 μ-loop2 Inv-loop μ-loop
-wide-requires-2 c κs = search needs
-
-add-if9 : tie.Need-add-if9 Inv-loop2 μ-loop2 Inv-loop μ-loop
-add-if9 c =
-    let at-begun = begun (turn (agreed (c .before .before))) in
-    let at-head = head at-begun in
-    let word = at-head .loop .j - call at-head .args .i in
-    omega (arith, facts at-begun, c .wide2 .ensures, c .before .slice-known3 .given (at-head .loop .j + word))
-
-add-k-2 : tie.Need-add-k-2 Inv-loop2 μ-loop2 Inv-loop μ-loop
-add-k-2 c = omega (arith, facts (begun (turn (agreed (c .before .before .before)))))
+settled-requires : tie.Need-settled-requires Inv-loop2 μ-loop2 Inv-loop μ-loop
+settled-requires c κs =
+    let w = facts (begun (turn (c .before .before))) in
+    (omega (arith, w), omega (arith, w), w .short)
 
 loop2-less : tie.Need-loop2-less Inv-loop2 μ-loop2 Inv-loop μ-loop
 loop2-less c = search needs
 
 loop2-again : tie.Need-loop2-again Inv-loop2 μ-loop2 Inv-loop μ-loop
-loop2-again c = more (agreed (c .before .before .before))
+loop2-again c = more (c .before .before .before .before)
 
 loop2-less-2 : tie.Need-loop2-less-2 Inv-loop2 μ-loop2 Inv-loop μ-loop
 loop2-less-2 c = search needs
 
 loop2-again-2 : tie.Need-loop2-again-2 Inv-loop2 μ-loop2 Inv-loop μ-loop
-loop2-again-2 c = more (c .before .before)
-
-loop2-less-3 : tie.Need-loop2-less-3 Inv-loop2 μ-loop2 Inv-loop μ-loop
-loop2-less-3 c = search needs
-
-loop2-again-3 : tie.Need-loop2-again-3 Inv-loop2 μ-loop2 Inv-loop μ-loop
-loop2-again-3 c = more (c .before)
+loop2-again-2 c = more (c .before)
 
 enum-told : tie.Need-enum-told Inv-loop2 μ-loop2 Inv-loop μ-loop
 enum-told c = search needs
@@ -179,33 +150,21 @@ loop-less c = omega (arith, facts (began (ended c)))
 loop-again : tie.Need-loop-again Inv-loop2 μ-loop2 Inv-loop μ-loop
 loop-again c =
     join-step (facts (began (ended c))) (told (ended c)) (c .before .before .before .before .before .enum-told .given .1)
-    (⊎-elim (λ r. omega (arith, r .0 .taken, r .1)) (λ r. omega (arith, r .1)) (c .if10 .came))
-    (⊎-elim (λ r. omega (arith, r .1)) (λ r. omega (arith, r .0 .left, r .1)) (c .if10 .came))
+    (⊎-elim (λ r. omega (arith, r .0 .taken, r .1)) (λ r. omega (arith, r .1)) (c .if8 .came))
+    (⊎-elim (λ r. omega (arith, r .1)) (λ r. omega (arith, r .0 .left, r .1)) (c .if8 .came))
     (c .before .before .before .restore .ensures)
-
-enum-told-2 : tie.Need-enum-told-2 Inv-loop2 μ-loop2 Inv-loop μ-loop
-enum-told-2 c = search needs
 
 same-length : tie.Need-same-length Inv-loop2 μ-loop2 Inv-loop μ-loop
 same-length c = search needs
 
 returns : tie.Need-returns Inv-loop2 μ-loop2 Inv-loop μ-loop
-returns c = joined-same (facts (began (c .before .before))) (told (c .before .before)) (c .enum-told2 .given .1)
-
-enum-told-3 : tie.Need-enum-told-3 Inv-loop2 μ-loop2 Inv-loop μ-loop
-enum-told-3 c = search needs
+returns c = search joined-end
 
 same-length-2 : tie.Need-same-length-2 Inv-loop2 μ-loop2 Inv-loop μ-loop
 same-length-2 c = search needs
 
 returns-2 : tie.Need-returns-2 Inv-loop2 μ-loop2 Inv-loop μ-loop
-returns-2 c = joined-above (facts (began (c .before .before))) (told (c .before .before)) (c .enum-told3 .given .1)
-
-same-length-3 : tie.Need-same-length-3 Inv-loop2 μ-loop2 Inv-loop μ-loop
-same-length-3 c = search needs
-
-returns-3 : tie.Need-returns-3 Inv-loop2 μ-loop2 Inv-loop μ-loop
-returns-3 c = search joined-end
+returns-2 c = joined-stopped (facts (began (c .before))) (told (c .before)) (c .match .keys2)
 
 pub join-spec : {M : Type 1} → statement M
 join-spec =
@@ -229,30 +188,19 @@ join-spec =
     add-letter-2
     shared-slice-read-letter-2
     letter-requires-2
-    smaller-requires
+    compare-requires
     add-k
-    add-wide
-    mul-wide-2
-    slice-read-wide-2
-    wide-requires-2
-    add-if9
-    add-k-2
+    settled-requires
     loop2-less
     loop2-again
     loop2-less-2
     loop2-again-2
-    loop2-less-3
-    loop2-again-3
     enum-told
     restore-requires
     add-j-2
     loop-less
     loop-again
-    enum-told-2
     same-length
     returns
-    enum-told-3
     same-length-2
-    returns-2
-    same-length-3
-    returns-3)
+    returns-2)
