@@ -6,7 +6,7 @@ use lib.ListN.{length}
 use Rattle.words.specs.Compute.Factorization.{factorizationOf}
 use Rattle.answer.specs.declared.Answer.{Answer}
 use Rattle.answer.specs.Answers.{acceptedWith}
-use Rattle.checks.specs.Checks.{textChecked, forestChecked}
+use Rattle.checks.specs.Checks.{textChecked}
 use Rattle.factors.specs.Default.{decided-default}
 
 -- The factor list of x, in a buffer of `given` places: the count is the number of factors.
@@ -16,7 +16,3 @@ factorizationAnswer x given = textChecked (length x) given (acceptedWith (length
 -- The Lyndon suffix table of x, in a buffer of `given` places: the count is the number of letters.
 abbrev pub suffixTableAnswer : List ℕ → ℕ → Answer
 suffixTableAnswer x given = textChecked (length x) given (acceptedWith (length x))
-
--- The left forest of x, in buffers of `in-first` and `in-past` places: refused where either is short; the count is the number of letters.
-abbrev pub leftForestAnswer : List ℕ → ℕ → ℕ → Answer
-leftForestAnswer x in-first in-past = forestChecked (length x) in-first in-past (acceptedWith (length x))

@@ -3,6 +3,5 @@ pub mod Duval
 pub mod DuvalSteps
 pub mod DuvalFactorization
 pub mod Results
-pub mod Links
 pub mod Answers
 pub mod Theorems

@@ -6,7 +6,6 @@ use Prim.Native.Nat.{ℕ, _+_, _<_, _≤_}
 use lib.ListN.{length, getD}
 use Rattle.words.specs.SuffixTable.{LongestTo}
 use Rattle.words.specs.Compute.Factorization.{factorizationOf}
-use Rattle.words.specs.Compute.LeftForest.{leftFirstOf, leftPastOf}
 use Rattle.words.specs.Laws.SpanLyndon.{letters}
 use Rattle.words.specs.Laws.LowestSuffix.{Lowest}
 use Rattle.answer.specs.Limits.{maxLength}
@@ -46,8 +45,3 @@ pub record Covered (x out : List ℕ) (start : ℕ) (s : Stretch) : Type 0 where
   pub small : s .period ≤ maxLength
   pub entry : (t : ℕ) → t < s .end → LongestTo defaultOrder x t (getD out t 0)
   pub remains : start + s .period ≤ s .end → ScanStopped defaultOrder (letters 0 x) (length x) start s
-
--- The left forest of x is written.
-pub record Grown (x first first′ past past′ : List ℕ) : Type 0 where
-  pub in-first : first′ ≡ written (leftFirstOf decided-default x (factorizationOf decided-default x)) first
-  pub in-past : past′ ≡ written (leftPastOf decided-default x (factorizationOf decided-default x)) past

@@ -59,7 +59,7 @@ fn fill_at(text: &[u8], out: &mut [u32], start: usize, s: Stretch) -> Stretch
 }
 
 // Writes the whole table, factor by factor.
-pub(crate) fn fill_table(text: &[u8], out: &mut [u32])
+fn fill_table(text: &[u8], out: &mut [u32])
     requires { ⌜ TextRoom (now text) (now out) ⌝ }
     ensures content { λ r. ⌜ Tabled (now (text .entry)) (now (out .entry)) (now (out .exit)) (length (now (text .entry))) ⌝ }
 {

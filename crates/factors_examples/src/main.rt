@@ -43,7 +43,7 @@ fn print_suffix_table(text: &[u8]) {
 fn print_left_forest(text: &[u8]) {
     let mut first = [99u32; 6];
     let mut past = [99u32; 5];
-    let a = factors::left_forest::left_forest(text, &mut first, &mut past);
+    let a = left_forest::left_forest(text, &mut first, &mut past);
     print_line(a, &first);
     print_line(a, &past);
 }

@@ -7,8 +7,10 @@ ghost use lib.ListN.{length};
 ghost use Rattle.lyndon_c.specs.Record.{recordOf};
 ghost use Rattle.array.specs.Calls.{arrayAnswer, runsAnswer};
 ghost use Rattle.array.specs.Theorems.{arrayAfter, listAfter, workAfter};
-ghost use Rattle.factors.specs.Answers.{factorizationAnswer, suffixTableAnswer, leftForestAnswer};
-ghost use Rattle.factors.specs.Theorems.{startsAfter, tableAfter, leftFirstAfter, leftPastAfter};
+ghost use Rattle.factors.specs.Answers.{factorizationAnswer, suffixTableAnswer};
+ghost use Rattle.factors.specs.Theorems.{startsAfter, tableAfter};
+ghost use Rattle.left_forest.specs.Answers.{leftForestAnswer};
+ghost use Rattle.left_forest.specs.Theorems.{leftFirstAfter, leftPastAfter};
 ghost use Rattle.from_array.specs.Answers.{reconstructAnswer, rightForestAnswer};
 ghost use Rattle.from_array.specs.Theorems.{textAfter, rightFirstAfter, rightPastAfter};
 ghost use Rattle.fasta.specs.Reader.{readerAnswer, lettersAfter};
@@ -86,7 +88,7 @@ pub extern "C" fn lyndon_left_forest(
     ensures starts { λ r. ⌜ now (first .exit) ≡ leftFirstAfter (now (text .entry)) (now (first .entry)) (now (past .entry)) ⌝ }
     ensures ends { λ r. ⌜ now (past .exit) ≡ leftPastAfter (now (text .entry)) (now (first .entry)) (now (past .entry)) ⌝ }
 {
-    exported(factors::left_forest::left_forest(text, first, past))
+    exported(left_forest::left_forest(text, first, past))
 }
 
 // The right Lyndon forest of every text that has the array.

@@ -10,7 +10,7 @@ use lib.Seq.{getD-set-same, getD-set-other}
 use Rattle.words.specs.Laws.LeftForest.{Uncrossed, FirstCrossing, start-uncrossed}
 use Rattle.answer.specs.Content.{Kept, From}
 use Rattle.answer.specs.ContentLaws.{kept-all, kept-then, kept-where, kept-set}
-use Rattle.factors.specs.Links.{startIn, Descends, Linked, Closes, Linkable, Crossed}
+use Rattle.left_forest.specs.Links.{startIn, Descends, Linked, Closes, Linkable, Crossed}
 
 -- A position that a word before e crosses is not uncrossed up to e.
 crossed-differs : (start : ℕ → ℕ) (j d e t : ℕ) → FirstCrossing start j d → d < e → Uncrossed start e t → ¬ (j ≡ t)

@@ -10,7 +10,7 @@ use lib.Seq.{getD-set-same, getD-set-other}
 use Rattle.words.specs.Laws.LeftForest.{Uncrossed, FirstCrossing, start-uncrossed}
 use Rattle.answer.specs.Content.{Kept, From}
 use Rattle.answer.specs.ContentLaws.{kept-all, kept-then, kept-where, kept-set}
-use Rattle.factors.specs.Links.{Descends, Linked, OwnRoots}
+use Rattle.left_forest.specs.Links.{Descends, Linked, OwnRoots}
 
 -- Marking has come down to t in a buffer: the positions up to e behind t that no word crosses hold themselves.
 pub record MarkedTo (start : ℕ → ℕ) (before out : List ℕ) (e t : ℕ) : Type 0 where

@@ -1,10 +1,10 @@
--- `factors::left_forest::close` meets its contract: each turn closes one position and follows its link.
+-- `left_forest::close` meets its contract: each turn closes one position and follows its link.
 -- Assumes nothing.
 use native.Mathlib.Omega.{arith}
 use borrow.Author.Needs.{needs}
-use Rattle.factors.proofs.Linking.{Closing, closing-start, closing-falls, closing-step, closing-end}
-use Rattle.factors.proofs.left_forest.close.Statement.{statement}
-use Rattle.factors.proofs.left_forest.close.Tie as tie
+use Rattle.left_forest.proofs.Linking.{Closing, closing-start, closing-falls, closing-step, closing-end}
+use Rattle.left_forest.proofs.close.Statement.{statement}
+use Rattle.left_forest.proofs.close.Tie as tie
 
 abbrev Inv-loop : tie.InvT-loop
 Inv-loop first past₀ e last t₀ past t = Closing first past₀ past e last t

@@ -1,4 +1,4 @@
--- `factors::left_forest::left_forest` meets its contract: the checks give the answer, and the forest is written where they pass.
+-- `left_forest::left_forest` meets its contract: the checks give the answer, and the forest is written where they pass.
 -- Assumes nothing.
 use mathlib.Core.Path.{sym, _∙_}
 use Prim.Native.Nat.{_<_}
@@ -8,8 +8,8 @@ use borrow.Author.Needs.{needs}
 use Rattle.answer.specs.AfterLaws.{content-refused, content-accepted}
 use Rattle.checks.specs.CheckLaws.{passing, failing, forest-passed}
 use Rattle.answer.specs.Content.{TextRoom}
-use Rattle.factors.proofs.left_forest.left_forest.Statement.{statement}
-use Rattle.factors.proofs.left_forest.left_forest.Tie as tie
+use Rattle.left_forest.proofs.left_forest.Statement.{statement}
+use Rattle.left_forest.proofs.left_forest.Tie as tie
 
 abbrev start : tie.After-enum-told → tie.Start
 start c = c .before .before .before .before .before .before

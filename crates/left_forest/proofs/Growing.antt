@@ -1,4 +1,4 @@
--- The three passes of the left forest, one after the other, write the left forest.
+-- The suffix table and the two passes over it, one after the other, write the left forest.
 -- Assumes nothing.
 use mathlib.Core.Path.{_≡_, sym, ap, subst, _∙_}
 use mathlib.Core.List.{List}
@@ -15,10 +15,11 @@ use Rattle.words.specs.Laws.LongestEnding.{LongestEnding, longest-ending}
 use Rattle.words.specs.Laws.LeftForest.{Uncrossed, LeftRecords, longest-nested, records-left-forest}
 use Rattle.words.specs.Laws.ForestUnique.{left-forest-unique}
 use Rattle.answer.specs.ContentLaws.{kept-then, kept-where, written-places}
 use Rattle.factors.specs.Default.{defaultOrder, decided-default}
 use Rattle.answer.specs.Content.{TextRoom}
-use Rattle.factors.specs.Results.{Tabled, Grown}
-use Rattle.factors.specs.Links.{startIn, Descends, Linked, Linkable, Crossed, OwnRoots}
+use Rattle.factors.specs.Results.{Tabled}
+use Rattle.left_forest.specs.Results.{Grown}
+use Rattle.left_forest.specs.Links.{startIn, Descends, Linked, Linkable, Crossed, OwnRoots}
 
 module _ (x first past table : List ℕ) (room-first : TextRoom x first) (room-past : TextRoom x past) (w : Tabled x past table (length x)) where
   table-start : (t : ℕ) → (l : t < length x) → w .entry t l .start ≡ startIn table t

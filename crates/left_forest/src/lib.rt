@@ -1,7 +1,10 @@
-// The left forest of a byte text.
-use super::suffix_table::fill_table;
+// The left forest of a byte text in the default order, a public call with no `requires`: crate `factors`
+// writes the Lyndon suffix table, and two passes make the forest of it.
+//
+// Contracts cite `specs/Answers.antt`, the default order of `factors` and the definitions of `words`. Nothing is assumed.
 use answer::Answer;
 use checks::Check;
+use factors::suffix_table::suffix_table;
 use letters::wide;
 ghost use mathlib.Core.Path.{_≡_};
 ghost use Prim.Native.Nat.{ℕ, _<_};
@@ -9,11 +12,11 @@ ghost use lib.ListN.{length};
 ghost use Rattle.words.specs.Compute.Factorization.{factorizationOf};
 ghost use Rattle.words.specs.Compute.LeftForest.{leftFirstOf, leftPastOf};
 ghost use Rattle.answer.specs.AfterCall.{contentAfter};
 ghost use Rattle.factors.specs.Default.{decided-default};
 ghost use Rattle.answer.specs.Content.{TextRoom};
-ghost use Rattle.factors.specs.Results.{Grown};
-ghost use Rattle.factors.specs.Answers.{leftForestAnswer};
-ghost use Rattle.factors.specs.Links.{Descends, Linked, Closes, Linkable, Crossed, OwnRoots};
+ghost use Rattle.left_forest.specs.Results.{Grown};
+ghost use Rattle.left_forest.specs.Answers.{leftForestAnswer};
+ghost use Rattle.left_forest.specs.Links.{Descends, Linked, Closes, Linkable, Crossed, OwnRoots};
 
 // The word that ends at `e` starts at `last`: from `e` down the links of FIRST, each position above
 // `last` gets its end in PAST.
@@ -63,14 +66,15 @@ fn mark_roots(first: &mut [u32], past: &mut [u32], last: usize)
     past[0] = 0;
 }
 
-// Writes the left forest: PAST holds the suffix table until its words have been read.
+// Writes the left forest: PAST holds the suffix table until its words have been read. The checks of
+// `suffix_table` pass here, so that its answer need not be looked at.
 fn grow(text: &[u8], first: &mut [u32], past: &mut [u32])
     requires { ⌜ 0 < length (now text) ⌝ }
     requires { ⌜ TextRoom (now text) (now first) ⌝ }
     requires { ⌜ TextRoom (now text) (now past) ⌝ }
     ensures content { λ r. ⌜ Grown (now (text .entry)) (now (first .entry)) (now (first .exit)) (now (past .entry)) (now (past .exit)) ⌝ }
 {
-    fill_table(text, past);
+    suffix_table(text, past);
     let last = link(first, past, text.len());
     mark_roots(first, past, last);
 }

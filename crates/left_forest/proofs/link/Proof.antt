@@ -1,12 +1,12 @@
--- `factors::left_forest::link` meets its contract: each turn reads one word of the table.
+-- `left_forest::link` meets its contract: each turn reads one word of the table.
 -- Assumes nothing.
 use mathlib.Core.Path.{ap}
 use Prim.Native.Nat.{ℕ, _+_, _-_}
 use native.Mathlib.Omega.{arith}
 use borrow.Author.Needs.{needs}
-use Rattle.factors.proofs.Linking.{Reading, crossed-none, entry-fits, reading-descends, crossed-step, reading-end}
-use Rattle.factors.proofs.left_forest.link.Statement.{statement}
-use Rattle.factors.proofs.left_forest.link.Tie as tie
+use Rattle.left_forest.proofs.Linking.{Reading, crossed-none, entry-fits, reading-descends, crossed-step, reading-end}
+use Rattle.left_forest.proofs.link.Statement.{statement}
+use Rattle.left_forest.proofs.link.Tie as tie
 
 abbrev Inv-loop : tie.InvT-loop
 Inv-loop first₀ past₀ n last₀ e₀ first past last e = Reading first₀ past₀ first past n e last

@@ -1,11 +1,11 @@
--- `factors::left_forest::mark_roots` meets its contract: each turn marks one start of a factor and follows its link.
+-- `left_forest::mark_roots` meets its contract: each turn marks one start of a factor and follows its link.
 -- Assumes nothing.
 use native.Mathlib.Omega.{arith}
 use borrow.Author.Needs.{needs}
 use lib.ListN.{length-set}
-use Rattle.factors.proofs.Rooting.{Rooting, rooting-start, rooting-falls, rooting-step, marking-end}
-use Rattle.factors.proofs.left_forest.mark_roots.Statement.{statement}
-use Rattle.factors.proofs.left_forest.mark_roots.Tie as tie
+use Rattle.left_forest.proofs.Rooting.{Rooting, rooting-start, rooting-falls, rooting-step, marking-end}
+use Rattle.left_forest.proofs.mark_roots.Statement.{statement}
+use Rattle.left_forest.proofs.mark_roots.Tie as tie
 
 abbrev Inv-loop : tie.InvT-loop
 Inv-loop first₀ past₀ last t₀ first past t = Rooting first₀ past₀ first past last t

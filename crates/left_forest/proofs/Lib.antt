@@ -1,0 +1,4 @@
+pub mod SuffixTable
+pub mod Linking
+pub mod Rooting
+pub mod Growing
