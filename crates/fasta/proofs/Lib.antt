@@ -1,3 +1,1 @@
-pub mod Sorting
-pub mod Naming
 pub mod Reading

@@ -4,7 +4,7 @@ use mathlib.Core.Path.{_≡_}
 use mathlib.Core.Logic.{_⊎_, inl, inr}
 use Prim.Native.Nat.{ℕ, _≤_}
 use native.Mathlib.Decide.{decLe}
-use Rattle.fasta.specs.Bytes.{lineEnd, carriageReturn}
+use Rattle.fasta_record.specs.Bytes.{lineEnd, carriageReturn}
 
 -- "letters A to Z and a to z".
 abbrev pub IsLetter : ℕ → Type 0

@@ -6,7 +6,7 @@ use Prim.Native.Nat.{ℕ}
 use lib.ListN.{replicate}
 use Rattle.answer.specs.declared.Reason.the-variants.{ShortOutput, NoHeader, BadName, UnfitByte, SecondRecord, NoLetters, TooManyLetters, FileTooLong}
 use Rattle.answer.specs.Answers.{acceptedWith, refusedFor}
-use Rattle.fasta.specs.Bytes.{headerMark, lineEnd}
+use Rattle.fasta_record.specs.Bytes.{headerMark, lineEnd}
 use Rattle.fasta.specs.Reader.{readerAnswer, lettersOf, nameEndAfter}
 
 -- `>m`, LF, `AC`, CR, LF, LF, `gt`: four letters.

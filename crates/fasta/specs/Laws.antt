@@ -1,4 +1,3 @@
-pub mod Positions
 pub mod Classes
 pub mod Stands
 pub mod SequenceLetters
@@ -7,6 +6,7 @@ pub mod NameBytes
 pub mod LineRows
 pub mod HeaderLine
 pub mod RecordRows
+pub mod Positions
 pub mod Accepted
 pub mod CheckOrder
 pub mod OneAnswer

@@ -1,6 +1,4 @@
-pub mod Bytes
-pub mod Name
-pub mod Lines
+pub mod Letters
 pub mod Reader
 pub mod Classes
 pub mod Rows

@@ -12,8 +12,9 @@ use Rattle.answer.specs.declared.Answer.{Answer}
 use Rattle.answer.specs.declared.Reason.{Reason}
 use Rattle.answer.specs.Answers.{acceptedWith, refusedFor}
 use Rattle.answer.specs.AcceptedContent.{written-first, written-rest}
-use Rattle.fasta.specs.Bytes.{letterOf}
-use Rattle.fasta.specs.Reader.{linesStart, nameEnd, readerAnswer, lettersOf, lettersAfter}
+use Rattle.fasta_record.specs.Bytes.{letterOf}
+use Rattle.fasta_record.specs.Record.{linesStart, nameEnd}
+use Rattle.fasta.specs.Reader.{readerAnswer, lettersOf, lettersAfter}
 use Rattle.fasta.specs.Rows.{NameEnds, HeaderEnds, sequenceLetters}
 use Rattle.fasta.specs.CheckOrder.{Refuses, Accepts, HasAnswer}
 use Rattle.fasta.specs.Laws.Accepted.{AcceptedInput, reader-accepted}

@@ -8,9 +8,9 @@ use lib.ListN.{length, getD, take, drop}
 use Rattle.answer.specs.declared.Reason.{Reason}
 use Rattle.answer.specs.declared.Reason.the-variants.{ShortOutput, NoHeader, BadName, UnfitByte, SecondRecord, NoLetters, TooManyLetters, FileTooLong}
 use Rattle.answer.specs.Limits.{maxLetters, maxInput}
-use Rattle.fasta.specs.Bytes.{headerMark, lineEnd, carriageReturn}
+use Rattle.fasta_record.specs.Bytes.{headerMark, lineEnd, carriageReturn}
 use Rattle.fasta.specs.Classes.{IsLetter, InName, EndsName, letter?}
-use Rattle.fasta.specs.Name.{maxName}
+use Rattle.fasta_record.specs.Name.{maxName}
 
 -- The byte b stands at p.
 pub record Stands (x : List ℕ) (p b : ℕ) : Type 0 where

@@ -1,29 +1,25 @@
 // The FASTA reader: an input of one record, checked in the order of document 01's table, gives its letters and where its name ends.
 // Contracts cite `specs/Reader.antt`. Nothing is assumed.
-pub mod bytes;
-pub mod lines;
-pub mod name;
+mod letters;
 
 ghost use mathlib.Core.Path.{_≡_};
 ghost use Prim.Native.Nat.{_≤_};
 ghost use lib.ListN.{length};
+ghost use Rattle.answer.specs.Answers.{refusedFor};
 ghost use Rattle.answer.specs.AfterCall.{contentAfter};
 ghost use Rattle.answer.specs.Limits.{maxInput, maxLetters};
-ghost use Rattle.fasta.specs.Reader.{recordEnding, nameEnd, answerFor, readerAnswer, lettersOf, nameEndAfter};
-use crate::bytes::HEADER_MARK;
-use crate::bytes::stands_at;
-use crate::lines::Ending;
-use crate::lines::after_line;
-use crate::lines::lines_from;
-use crate::lines::write_letters;
-use crate::name::Name;
-use crate::name::name_from;
+ghost use Rattle.fasta_record.specs.Record.{recordEnding};
+ghost use Rattle.fasta.specs.Reader.{endingPosition, answerFor, readerAnswer, lettersOf, nameEndAfter};
+use crate::letters::write_letters;
 use answer::Answer;
 use answer::Outcome;
 use answer::Reason;
 use answer::accepted;
 use answer::refused;
 use checks::Check;
+use fasta_record::lines::Ending;
+use fasta_record::lines::after_line;
+use fasta_record::record_ending;
 
 // What the reader answers, and the `end` of the name, past its last byte: 0 where it refuses.
 pub struct NamedAnswer {
@@ -31,55 +27,25 @@ pub struct NamedAnswer {
     pub end: usize,
 }
 
-// How a record ends, and the `end` of its name: 0 where none is found.
-struct NamedEnding {
-    ending: Ending,
-    end: usize,
-}
-
-// How the record ends that starts at `from`, and where its name does.
-fn record_ending(input: &[u8], from: usize) -> NamedEnding
-    requires { ⌜ from ≤ length (now input) ⌝ }
-    requires { ⌜ length (now input) ≤ maxInput ⌝ }
-    ensures ending { λ r. ⌜ r .ending ≡ recordEnding (now (input .entry)) from ⌝ }
-    ensures end { λ r. ⌜ r .end ≡ nameEnd (now (input .entry)) from ⌝ }
+// A refusal at a position of an input of fitting size.
+fn refused_at(reason: Reason, position: usize) -> Answer
+    requires { ⌜ position ≤ maxInput ⌝ }
+    ensures answer { λ r. ⌜ r ≡ refusedFor reason position ⌝ }
 {
-    if stands_at(HEADER_MARK, input, from) {
-        let name = name_from(input, from + 1);
-        match name {
-            Name::Named { end } => NamedEnding {
-                ending: lines_from(input, after_line(input, from)),
-                end,
-            },
-            Name::Misnamed { position } => NamedEnding {
-                ending: Ending::RefusedAt {
-                    reason: Reason::BadName,
-                    position,
-                },
-                end: 0,
-            },
-        }
-    } else {
-        NamedEnding {
-            ending: Ending::RefusedAt {
-                reason: Reason::NoHeader,
-                position: from as u32,
-            },
-            end: 0,
-        }
-    }
+    refused(reason, position as u32)
 }
 
-// The answer for an input that is one record, by how it ends.
+// The answer for an input of fitting size that is one record, by how it ends.
 fn answer_for(ending: Ending) -> Answer
+    requires { ⌜ endingPosition ending ≤ maxInput ⌝ }
     ensures answer { λ r. ⌜ r ≡ answerFor ending ⌝ }
 {
     match ending {
-        Ending::RefusedAt { reason, position } => refused(reason, position),
-        Ending::NextRecord { count: _, position } => refused(Reason::SecondRecord, position),
+        Ending::RefusedAt { reason, position } => refused_at(reason, position),
+        Ending::NextRecord { count: _, position } => refused_at(Reason::SecondRecord, position),
         Ending::Finished { count, position } => {
             if count == 0 {
-                refused(Reason::NoLetters, position)
+                refused_at(Reason::NoLetters, position)
             } else {
                 accepted(count)
             }

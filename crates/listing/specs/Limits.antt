@@ -2,7 +2,7 @@
 -- Assumes nothing.
 use Prim.Native.Nat.{ℕ, _+_, _*_, _/_}
 use Rattle.answer.specs.Limits.{maxLetters, runListLength}
-use Rattle.fasta.specs.Name.{maxName}
+use Rattle.fasta_record.specs.Name.{maxName}
 
 -- A 32-bit number and the number after it have at most so many digits.
 abbrev pub maxDigits : ℕ

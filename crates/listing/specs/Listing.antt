@@ -7,7 +7,8 @@ use Rattle.answer.specs.declared.Outcome.the-variants.{Accepted, Refused}
 use Rattle.answer.specs.Reasons.{numberOf}
 use Rattle.answer.specs.Limits.{maxLetters}
 use Rattle.array.specs.Calls.{runList}
-use Rattle.fasta.specs.Reader.{recordName, readerAnswer, recordLetters}
+use Rattle.fasta_record.specs.Record.{recordName}
+use Rattle.fasta.specs.Reader.{readerAnswer, recordLetters}
 use Rattle.listing.specs.Decimal.{decimalOf}
 use Rattle.listing.specs.Bed.{bedLines}
 

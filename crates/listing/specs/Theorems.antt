@@ -13,7 +13,7 @@ use Rattle.answer.specs.declared.Answer.{Answer}
 use Rattle.answer.specs.declared.Reason.{Reason}
 use Rattle.answer.specs.Reasons.{numberOf}
 use Rattle.answer.specs.Limits.{maxLetters}
-use Rattle.fasta.specs.Bytes.{letterOf}
+use Rattle.fasta_record.specs.Bytes.{letterOf}
 use Rattle.fasta.specs.Rows.{NameEnds, HeaderEnds, sequenceLetters}
 use Rattle.fasta.specs.CheckOrder.{Refuses, Accepts}
 use Rattle.fasta.specs.Reader.{lettersOf}

@@ -3,13 +3,13 @@
 ghost use Prim.Native.Nat.{_+_, _*_, _≤_};
 ghost use lib.ListN.{length};
 ghost use Rattle.answer.specs.Content.{Written};
-ghost use Rattle.fasta.specs.Name.{maxName};
+ghost use Rattle.fasta_record.specs.Name.{maxName};
 ghost use Rattle.listing.specs.Bed.{numberField, repeatField, bedLine, bedLines, entryWith, entriesOf};
 ghost use Rattle.listing.specs.Limits.{maxLine};
 use crate::text::write_byte;
 use crate::text::write_bytes;
 use crate::text::write_decimal;
-use fasta::bytes::LINE_END;
+use fasta_record::bytes::LINE_END;
 
 const TAB: u8 = 9;
 

@@ -9,7 +9,7 @@ ghost use lib.ListN.{length};
 ghost use Rattle.answer.specs.Limits.{maxLetters, runListLength, workLength};
 ghost use Rattle.answer.specs.Content.{Written};
 ghost use Rattle.array.specs.Calls.{runList};
-ghost use Rattle.fasta.specs.Name.{maxName};
+ghost use Rattle.fasta_record.specs.Name.{maxName};
 ghost use Rattle.listing.specs.Bed.{bedLines};
 ghost use Rattle.listing.specs.Limits.{maxRefusal, maxListing};
 ghost use Rattle.listing.specs.Listing.{refusalLine, listingOf};
@@ -21,7 +21,7 @@ use answer::Outcome;
 use answer::number;
 use answer::value;
 use array::runs::runs;
-use fasta::bytes::LINE_END;
+use fasta_record::bytes::LINE_END;
 
 // The most bytes that are printed for an input.
 pub const MAX_LISTING: usize = 389_120;

@@ -6,9 +6,10 @@ use native.Mathlib.Omega.{arith}
 use lib.ListN.{length, drop}
 use Rattle.answer.specs.declared.Outcome.{Outcome}
 use Rattle.answer.specs.AfterCall.{written, contentIn}
-use Rattle.fasta.specs.Lines.{lettersIn}
-use Rattle.fasta.specs.Reader.{answerFor, recordEnding, lettersOf, nameEndIn}
-use Rattle.fasta.specs.Laws.Positions.{linesStart-within}
+use Rattle.fasta.specs.Letters.{lettersIn}
+use Rattle.fasta_record.specs.Record.{recordEnding}
+use Rattle.fasta.specs.Reader.{answerFor, endingPosition, lettersOf, nameEndIn}
+use Rattle.fasta.specs.Laws.Positions.{ending-within}
 use Rattle.fasta.specs.Laws.Accepted.{AcceptedInput, accepted-input}
 use borrow.Author.Needs.{needs}
 use Rattle.fasta.proofs.read_record.Statement.{statement}
@@ -26,7 +27,9 @@ record-ending-requires : tie.Need-record-ending-requires
 record-ending-requires c κs = search needs
 
 answer-for-requires : tie.Need-answer-for-requires
-answer-for-requires c κs = search needs
+answer-for-requires c κs =
+    let x = c .before .before .before .args .input .now in
+    omega (arith, ap endingPosition (c .record-ending .ensures .0), ending-within x 0 (omega arith))
 
 enum-told : tie.Need-enum-told
 enum-told c = search needs
@@ -51,9 +54,8 @@ write-letters-requires c κs =
     let start = c .before .before .before .before .before .before .before .before in
     let x = start .args .input .now in
     let w = known (c .before .before) in
-    let e = c .before .after-line .ensures in
-    let n = ap (λ (q : ℕ). length (lettersIn (drop q x))) e in
-    (omega (arith, e, linesStart-within x 0 (omega arith)), omega (arith, n, w .letters, w .most, start .pre .1))
+    let n = ap (λ (q : ℕ). length (lettersIn (drop q x))) (c .before .after-line .ensures) in
+    omega (arith, n, w .letters, w .most, start .pre .1)
 
 same-length : tie.Need-same-length
 same-length c = search needs

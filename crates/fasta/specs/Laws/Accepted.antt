@@ -16,10 +16,11 @@ use Rattle.answer.specs.Answers.{accepted-apart}
 use Rattle.answer.specs.Answers.{refusedIf}
 use Rattle.answer.specs.AfterCall.{written}
 use Rattle.answer.specs.Limits.{maxLetters, maxInput}
-use Rattle.fasta.specs.declared.lines.Ending.{Ending}
-use Rattle.fasta.specs.declared.lines.Ending.the-variants.{RefusedAt, NextRecord, Finished}
-use Rattle.fasta.specs.Bytes.{letterOf}
-use Rattle.fasta.specs.Reader.{recordEnding, nameEnd, answerFor, readerAnswer, lettersOf}
+use Rattle.fasta_record.specs.declared.lines.Ending.{Ending}
+use Rattle.fasta_record.specs.declared.lines.Ending.the-variants.{RefusedAt, NextRecord, Finished}
+use Rattle.fasta_record.specs.Bytes.{letterOf}
+use Rattle.fasta_record.specs.Record.{recordEnding, nameEnd}
+use Rattle.fasta.specs.Reader.{answerFor, readerAnswer, lettersOf}
 use Rattle.fasta.specs.Rows.{NameEnds, sequenceLetters, in-lines}
 use Rattle.fasta.specs.Laws.LineRows.{letters-most}
 use Rattle.fasta.specs.Laws.HeaderLine.{record-letters}

@@ -13,9 +13,10 @@ use Rattle.answer.specs.declared.Reason.the-variants.{ShortOutput, NoLetters, F
 use Rattle.answer.specs.Answers.{acceptedWith}
 use Rattle.answer.specs.Answers.{refusedIf}
 use Rattle.answer.specs.Limits.{maxLetters, maxInput}
-use Rattle.fasta.specs.declared.lines.Ending.{Ending}
-use Rattle.fasta.specs.declared.lines.Ending.the-variants.{RefusedAt, NextRecord, Finished}
-use Rattle.fasta.specs.Reader.{recordEnding, nameEnd, answerFor, readerAnswer}
+use Rattle.fasta_record.specs.declared.lines.Ending.{Ending}
+use Rattle.fasta_record.specs.declared.lines.Ending.the-variants.{RefusedAt, NextRecord, Finished}
+use Rattle.fasta_record.specs.Record.{recordEnding, nameEnd}
+use Rattle.fasta.specs.Reader.{answerFor, readerAnswer}
 use Rattle.fasta.specs.Rows.{sequenceLetters, RecordRow, no-letters, Row, short-buffer, long-input, in-record}
 use Rattle.fasta.specs.CheckOrder.{EarlierCheck, FirstOf, Refuses, Accepts, HasAnswer}
 use Rattle.fasta.specs.Laws.RecordRows.{earlier-pass, earlier-position, record-pass, last-only, ReadToEnd, RecordSays, record-says}

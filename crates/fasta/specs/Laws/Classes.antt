@@ -7,11 +7,11 @@ use Prim.Native.Nat.{ℕ, _≤_, _<_}
 use native.Mathlib.Omega.{arith}
 use borrow.Author.Tests.{leb-true, leb-false, eqb-true, eqb-false}
 use lib.Dec.{leb, eqb}
-use Rattle.fasta.specs.declared.bytes.Kind.{Kind}
-use Rattle.fasta.specs.declared.bytes.Kind.the-variants.{Letter, LineEnd, CarriageReturn, HeaderMark, Unfit}
-use Rattle.fasta.specs.declared.bytes.NameByte.{NameByte}
-use Rattle.fasta.specs.declared.bytes.NameByte.the-variants.{Part, Past, Foreign}
-use Rattle.fasta.specs.Bytes.{within, kindOf, nameByteOf, headerMark, lineEnd, carriageReturn}
+use Rattle.fasta_record.specs.declared.bytes.Kind.{Kind}
+use Rattle.fasta_record.specs.declared.bytes.Kind.the-variants.{Letter, LineEnd, CarriageReturn, HeaderMark, Unfit}
+use Rattle.fasta_record.specs.declared.bytes.NameByte.{NameByte}
+use Rattle.fasta_record.specs.declared.bytes.NameByte.the-variants.{Part, Past, Foreign}
+use Rattle.fasta_record.specs.Bytes.{within, kindOf, nameByteOf, headerMark, lineEnd, carriageReturn}
 use Rattle.fasta.specs.Classes.{IsLetter, InName, EndsName}
 
 -- What the test of a range says.

@@ -12,10 +12,11 @@ use lib.ListN.{length, getD, drop, drop-of-length-le}
 use lib.Seq.{drop-cons}
 use Rattle.words.specs.Laws.Numbers.{below-suc}
 use Rattle.answer.specs.declared.Reason.{Reason}
-use Rattle.fasta.specs.Bytes.{letterOf, lineEnd}
+use Rattle.fasta_record.specs.Bytes.{letterOf, lineEnd}
 use Rattle.fasta.specs.Classes.{letter?}
-use Rattle.fasta.specs.Lines.{afterLine, linesFrom}
-use Rattle.fasta.specs.Reader.{linesStart, recordLetters}
+use Rattle.fasta_record.specs.Lines.{afterLine, linesFrom}
+use Rattle.fasta_record.specs.Record.{linesStart}
+use Rattle.fasta.specs.Reader.{recordLetters}
 use Rattle.fasta.specs.Rows.{Stands, HeaderEnds, InLines, sequenceLetters, LineRow, unfit-byte, second-record, letter-too-many}
 use Rattle.fasta.specs.Laws.SequenceLetters.{letters-filtered, letters-none}
 use Rattle.fasta.specs.Laws.LineRows.{EndingSays, lines-say}

@@ -14,14 +14,14 @@ use Rattle.words.specs.Laws.Numbers.{below-suc}
 use Rattle.answer.specs.declared.Reason.{Reason}
 use Rattle.answer.specs.declared.Reason.the-variants.{UnfitByte, SecondRecord, TooManyLetters}
 use Rattle.answer.specs.Limits.{maxLetters}
-use Rattle.fasta.specs.declared.bytes.Kind.{Kind}
-use Rattle.fasta.specs.declared.bytes.Kind.the-variants.{Letter, LineEnd, CarriageReturn, HeaderMark, Unfit}
-use Rattle.fasta.specs.declared.lines.Ending.{Ending}
-use Rattle.fasta.specs.declared.lines.Ending.the-variants.{RefusedAt, NextRecord, Finished}
-use Rattle.fasta.specs.declared.lines.Step.the-variants.{On, Off}
-use Rattle.fasta.specs.Bytes.{kindOf, headerMark, lineEnd, carriageReturn, startsWith}
+use Rattle.fasta_record.specs.declared.bytes.Kind.{Kind}
+use Rattle.fasta_record.specs.declared.bytes.Kind.the-variants.{Letter, LineEnd, CarriageReturn, HeaderMark, Unfit}
+use Rattle.fasta_record.specs.declared.lines.Ending.{Ending}
+use Rattle.fasta_record.specs.declared.lines.Ending.the-variants.{RefusedAt, NextRecord, Finished}
+use Rattle.fasta_record.specs.declared.lines.Step.the-variants.{On, Off}
+use Rattle.fasta_record.specs.Bytes.{kindOf, headerMark, lineEnd, carriageReturn, startsWith}
 use Rattle.fasta.specs.Classes.{IsLetter, letter?}
-use Rattle.fasta.specs.Lines.{stepFor, linesFrom}
+use Rattle.fasta_record.specs.Lines.{stepFor, linesFrom}
 use Rattle.fasta.specs.Rows.{Stands, InLines, LineStart, UnfitAt, other-byte, return-alone, mark-inside, sequenceLetters}
 use Rattle.fasta.specs.Rows.{LineRow, unfit-byte, second-record, letter-too-many}
 use Rattle.fasta.specs.Laws.Classes.{KindSays, kind-says, letter-other}

@@ -12,13 +12,13 @@ use lib.Dec.{ltb, eqb}
 use lib.ListN.{length, getD, drop, drop-of-length-le}
 use lib.Seq.{drop-cons}
 use Rattle.words.specs.Laws.Numbers.{below-suc}
-use Rattle.fasta.specs.declared.bytes.NameByte.{NameByte}
-use Rattle.fasta.specs.declared.bytes.NameByte.the-variants.{Part, Past, Foreign}
-use Rattle.fasta.specs.declared.name.Name.{Name}
-use Rattle.fasta.specs.declared.name.Name.the-variants.{Named, Misnamed}
-use Rattle.fasta.specs.Bytes.{nameByteOf}
+use Rattle.fasta_record.specs.declared.bytes.NameByte.{NameByte}
+use Rattle.fasta_record.specs.declared.bytes.NameByte.the-variants.{Part, Past, Foreign}
+use Rattle.fasta_record.specs.declared.name.Name.{Name}
+use Rattle.fasta_record.specs.declared.name.Name.the-variants.{Named, Misnamed}
+use Rattle.fasta_record.specs.Bytes.{nameByteOf}
 use Rattle.fasta.specs.Classes.{InName}
-use Rattle.fasta.specs.Name.{maxName, nameOver, nameStep, nameFrom}
+use Rattle.fasta_record.specs.Name.{maxName, nameOver, nameStep, nameFrom}
 use Rattle.fasta.specs.Rows.{NameUpTo, NameOver, NameEnds, BadNameAt, empty, too-long, foreign}
 use Rattle.fasta.specs.Laws.Classes.{NameByteSays, name-byte-says, in-name-goes-on}
 

@@ -11,7 +11,7 @@ use Rattle.answer.specs.declared.Outcome.the-variants.{Accepted, Refused}
 use Rattle.answer.specs.declared.Reason.{Reason}
 use Rattle.answer.specs.declared.Reason.the-variants.{EmptyText, TextTooLong, UnknownOrder, ShortOutput, ShortWork, ZeroEntry, CrossingSpans}
 use Rattle.answer.specs.declared.Reason.the-variants.{NoHeader, BadName, UnfitByte, NoLetters, FileTooLong}
-use Rattle.fasta.specs.Bytes.{headerMark}
+use Rattle.fasta_record.specs.Bytes.{headerMark}
 use Rattle.fasta.specs.Rows.{HeaderEnds, LineStart, UnfitAt, other-byte, return-alone, mark-inside, sequenceLetters}
 use Rattle.fasta.specs.Rows.{LineRow, unfit-byte, second-record, letter-too-many, no-header, bad-name, in-lines, no-letters}
 use Rattle.fasta.specs.Rows.{Row, short-buffer, long-input, in-record}

@@ -1,37 +1,31 @@
--- Positions that are inside the input.
+-- A record that starts within the input ends within it.
 -- Assumes nothing.
-use mathlib.Core.Path.{_≡_, sym, ap, _∙_}
-use mathlib.Core.Bool.{Bool, true, false, cond}
-use mathlib.Core.List.{List, [], _∷_}
-use Prim.Native.Nat.{ℕ, suc, _+_, _≤_, _<_}
+use mathlib.Core.List.{List}
+use Prim.Native.Nat.{ℕ, _≤_}
 use native.Mathlib.Omega.{arith}
-use native.Mathlib.Decide.{decLt}
-use lib.Dec.{eqb}
-use lib.ListN.{length, drop, length-drop, drop-of-length-le}
-use Rattle.fasta.specs.Bytes.{lineEnd, startsWith}
-use Rattle.fasta.specs.Lines.{afterLine}
-use Rattle.fasta.specs.Reader.{linesStart}
+use lib.ListN.{length}
+use Rattle.answer.specs.declared.Reason.{Reason}
+use Rattle.fasta_record.specs.declared.lines.Ending.{Ending}
+use Rattle.fasta_record.specs.declared.lines.Ending.the-variants.{RefusedAt, NextRecord, Finished}
+use Rattle.fasta_record.specs.Record.{recordEnding, nameEnd}
+use Rattle.fasta.specs.Reader.{endingPosition}
+use Rattle.fasta.specs.Rows.{RecordRow, no-header, bad-name, in-lines, no-letters}
+use Rattle.fasta.specs.Laws.HeaderLine.{row-in-lines}
+use Rattle.fasta.specs.Laws.RecordRows.{RecordSays, record-says}
 
--- A line ends within the input.
-afterLine-within : (p : ℕ) (s : List ℕ) → afterLine p s ≤ p + length s
-afterLine-within p [] = omega arith
-afterLine-within p (b ∷ s) = go (eqb b lineEnd) (afterLine-within (suc p) s)
-  where
-    go : (t : Bool) → afterLine (suc p) s ≤ suc p + length s → cond t (suc p) (afterLine (suc p) s) ≤ p + suc (length s)
-    go true h = omega arith
-    go false h = omega arith
+-- The position of a row is within the input.
+row-within : {x : List ℕ} {s p : ℕ} {r : Reason} → s ≤ length x → RecordRow x s r p → p ≤ length x
+row-within h (no-header n) = h
+row-within h (bad-name u b) = u .within
+row-within h (in-lines i l) = omega (arith, row-in-lines l)
+row-within h (no-letters i n) = omega arith
 
--- The sequence lines start within the input.
-pub linesStart-within : (x : List ℕ) (p : ℕ) → p ≤ length x → linesStart x p ≤ length x
-linesStart-within x p h = omega (arith, afterLine-within p (drop p x), length-drop p x)
+-- The position of an end is within the input.
+end-within : (x : List ℕ) (s n : ℕ) (e : Ending) → s ≤ length x → RecordSays x s n e → endingPosition e ≤ length x
+end-within x s n (RefusedAt r p) h f = row-within h (f .holds)
+end-within x s n (NextRecord c p) h f = row-within h (f .holds)
+end-within x s n (Finished c p) h w = omega (arith, w .place)
 
--- A position with a byte is inside the input.
-pub starts-inside : (b : ℕ) (x : List ℕ) (p : ℕ) → startsWith b (drop p x) ≡ true → p < length x
-starts-inside b x p h = go (decLt p (length x))
-  where
-    go : Dec (p < length x) → p < length x
-    go (yes l) = l
-    go (no n) =
-        let z : _≡_ {A = Bool} false true = ap (startsWith b) (sym (drop-of-length-le x {i = p} (omega arith))) ∙ h in
-        let y : _≡_ {A = ℕ} 0 1 = cc in
-        absurd (omega arith)
+-- The position at which the record ends that starts at p.
+pub ending-within : (x : List ℕ) (p : ℕ) → p ≤ length x → endingPosition (recordEnding x p) ≤ length x
+ending-within x p h = end-within x p (nameEnd x p) (recordEnding x p) h (record-says x p h)

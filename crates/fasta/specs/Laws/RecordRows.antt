@@ -9,14 +9,14 @@ use lib.ListN.{length, take, drop}
 use lib.Seq.{take-length}
 use Rattle.answer.specs.declared.Reason.{Reason}
 use Rattle.answer.specs.declared.Reason.the-variants.{NoHeader, BadName, UnfitByte, SecondRecord, NoLetters}
-use Rattle.fasta.specs.declared.name.Name.{Name}
-use Rattle.fasta.specs.declared.name.Name.the-variants.{Named, Misnamed}
-use Rattle.fasta.specs.declared.lines.Ending.{Ending}
-use Rattle.fasta.specs.declared.lines.Ending.the-variants.{RefusedAt, NextRecord, Finished}
-use Rattle.fasta.specs.Bytes.{headerMark, startsWith}
-use Rattle.fasta.specs.Name.{nameFrom, endOf}
-use Rattle.fasta.specs.Lines.{linesFrom}
-use Rattle.fasta.specs.Reader.{nameChecked, linesStart, recordEnding, nameEnd}
+use Rattle.fasta_record.specs.declared.name.Name.{Name}
+use Rattle.fasta_record.specs.declared.name.Name.the-variants.{Named, Misnamed}
+use Rattle.fasta_record.specs.declared.lines.Ending.{Ending}
+use Rattle.fasta_record.specs.declared.lines.Ending.the-variants.{RefusedAt, NextRecord, Finished}
+use Rattle.fasta_record.specs.Bytes.{headerMark, startsWith}
+use Rattle.fasta_record.specs.Name.{nameFrom, endOf}
+use Rattle.fasta_record.specs.Lines.{linesFrom}
+use Rattle.fasta_record.specs.Record.{nameChecked, linesStart, recordEnding, nameEnd}
 use Rattle.fasta.specs.Rows.{Stands, NameEnds, HeaderEnds, sequenceLetters, LineRow, unfit-byte, second-record, letter-too-many}
 use Rattle.fasta.specs.Rows.{RecordRow, no-header, bad-name, in-lines, no-letters}
 use Rattle.fasta.specs.CheckOrder.{passOf, EarlierCheck, by-pass, by-position, FirstOf}

@@ -7,11 +7,11 @@ use Prim.Native.Nat.{ℕ, suc, _+_, _≤_, _<_}
 use native.Mathlib.Omega.{arith}
 use lib.ListN.{length, getD, take, drop, length-append, length-take, drop-of-length-le}
 use lib.Seq.{take-suc, drop-append-le}
-use Rattle.fasta.specs.declared.bytes.Kind.{Kind}
-use Rattle.fasta.specs.declared.bytes.Kind.the-variants.{Letter, LineEnd, CarriageReturn, HeaderMark, Unfit}
-use Rattle.fasta.specs.Bytes.{kindOf, letterOf}
+use Rattle.fasta_record.specs.declared.bytes.Kind.{Kind}
+use Rattle.fasta_record.specs.declared.bytes.Kind.the-variants.{Letter, LineEnd, CarriageReturn, HeaderMark, Unfit}
+use Rattle.fasta_record.specs.Bytes.{kindOf, letterOf}
 use Rattle.fasta.specs.Classes.{IsLetter, letter?}
-use Rattle.fasta.specs.Lines.{letterBefore, lettersIn}
+use Rattle.fasta.specs.Letters.{letterBefore, lettersIn}
 use Rattle.fasta.specs.Rows.{sequenceLetters}
 use Rattle.fasta.specs.Laws.Classes.{KindSays, kind-says, letter-other}
 

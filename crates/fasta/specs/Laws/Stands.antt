@@ -10,7 +10,7 @@ use borrow.Author.Tests.{eqb-true, eqb-false}
 use lib.Dec.{eqb}
 use lib.ListN.{length, getD, drop, drop-of-length-le}
 use lib.Seq.{drop-cons}
-use Rattle.fasta.specs.Bytes.{startsWith}
+use Rattle.fasta_record.specs.Bytes.{startsWith}
 use Rattle.fasta.specs.Rows.{Stands}
 
 -- What the test of the first byte says.

@@ -12,7 +12,8 @@ use Rattle.answer.specs.Answers.{numberIn, valueIn}
 use Rattle.answer.specs.AfterCall.{contentIn}
 use Rattle.answer.specs.Limits.{maxLetters}
 use Rattle.array.specs.Calls.{runList}
-use Rattle.fasta.specs.Reader.{nameEnd, readerAnswer, lettersOf, nameEndIn}
+use Rattle.fasta_record.specs.Record.{nameEnd}
+use Rattle.fasta.specs.Reader.{readerAnswer, lettersOf, nameEndIn}
 use Rattle.fasta.specs.Rows.{NameEnds}
 use Rattle.fasta.specs.Laws.Accepted.{AcceptedInput, reader-accepted, letters-first}
 use Rattle.listing.specs.Bed.{bedLines}

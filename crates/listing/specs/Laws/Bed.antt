@@ -6,7 +6,7 @@ use Prim.Native.Nat.{ℕ, zero, suc, _+_, _-_, _^_, _≤_, _<_}
 use native.Mathlib.Omega.{arith}
 use lib.ListN.{length, getD, drop, length-append}
 use lib.Seq.{getD-drop, drop-drop}
-use Rattle.fasta.specs.Name.{maxName}
+use Rattle.fasta_record.specs.Name.{maxName}
 use Rattle.listing.specs.Decimal.{decimalOf}
 use Rattle.listing.specs.Bed.{numberField, repeatField, bedLine, bedLines, entryWith, entriesOf}
 use Rattle.listing.specs.Limits.{maxLine}

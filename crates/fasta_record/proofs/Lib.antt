@@ -1,0 +1,4 @@
+pub mod Sorting
+pub mod Naming
+pub mod Reading
+pub mod Positions

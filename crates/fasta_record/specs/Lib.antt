@@ -1,0 +1,4 @@
+pub mod Bytes
+pub mod Name
+pub mod Lines
+pub mod Record
