@@ -9,8 +9,7 @@ use Rattle.answer.specs.declared.Answer.{Answer}
 use Rattle.answer.specs.declared.Outcome.{Outcome}
 use Rattle.answer.specs.declared.Outcome.the-variants.{Accepted, Refused}
 use Rattle.answer.specs.declared.Reason.the-variants.{SecondRecord, NoLetters}
-use Rattle.answer.specs.Answers.{acceptedWith, refusedFor}
-use Rattle.answer.specs.Answers.{refusedIf}
+use Rattle.answer.specs.Answers.{acceptedWith, refusedFor, refusedIf}
 use Rattle.checks.specs.Checks.{readerChecked}
 use Rattle.answer.specs.AfterCall.{contentAfter}
 use Rattle.fasta_record.specs.declared.lines.Ending.{Ending}

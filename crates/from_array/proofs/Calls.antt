@@ -8,8 +8,7 @@ use Rattle.words.specs.ValidArray.{Valid}
 use Rattle.words.specs.Compute.ValidArray.{Verdict, fits, fault, HasVerdict, checkArray, checkArray-holds}
 use Rattle.answer.specs.declared.Answer.{Answer}
 use Rattle.answer.specs.declared.Outcome.the-variants.{Accepted}
-use Rattle.answer.specs.Answers.{acceptedWith}
-use Rattle.answer.specs.Answers.{accepted-apart}
+use Rattle.answer.specs.Answers.{acceptedWith, accepted-apart}
 use Rattle.from_array.specs.Answers.{verdictAnswer, arrayChecked}
 
 -- An accepted array is valid, and the count is its length.

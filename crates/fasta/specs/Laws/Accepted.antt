@@ -11,9 +11,7 @@ use lib.ListN.{length, take, drop, length-map}
 use lib.Seq.{take-at, take-length}
 use Rattle.answer.specs.declared.Reason.the-variants.{ShortOutput, NoLetters, FileTooLong}
 use Rattle.answer.specs.declared.Outcome.the-variants.{Accepted}
-use Rattle.answer.specs.Answers.{acceptedWith}
-use Rattle.answer.specs.Answers.{accepted-apart}
-use Rattle.answer.specs.Answers.{refusedIf}
+use Rattle.answer.specs.Answers.{acceptedWith, accepted-apart, refusedIf}
 use Rattle.answer.specs.AfterCall.{written}
 use Rattle.answer.specs.Limits.{maxLetters, maxInput}
 use Rattle.fasta_record.specs.declared.lines.Ending.{Ending}

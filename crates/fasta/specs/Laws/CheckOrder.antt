@@ -10,8 +10,7 @@ use lib.Dec.{ltb, eqb}
 use lib.ListN.{length}
 use Rattle.answer.specs.declared.Reason.{Reason}
 use Rattle.answer.specs.declared.Reason.the-variants.{ShortOutput, NoLetters, FileTooLong}
-use Rattle.answer.specs.Answers.{acceptedWith}
-use Rattle.answer.specs.Answers.{refusedIf}
+use Rattle.answer.specs.Answers.{acceptedWith, refusedIf}
 use Rattle.answer.specs.Limits.{maxLetters, maxInput}
 use Rattle.fasta_record.specs.declared.lines.Ending.{Ending}
 use Rattle.fasta_record.specs.declared.lines.Ending.the-variants.{RefusedAt, NextRecord, Finished}
