@@ -63,6 +63,9 @@ module _ {now : Check} where
       let known = length-cleared (check (acceptedWith 0)) maxLength n (passing all (acceptedWith 0) e) in
       (record { some = known .0; short = known .1 }, known .2)
 
+  pub array-passed : (n : ℕ) → Adds Passed now (lengthChecked maxLength n) → now ≡ Passed → Sized n
+  array-passed n all e = sized-passed n (λ rest. rest) all e .0
+
   pub text-passed : (n given : ℕ) → Adds Passed now (textChecked n given) → now ≡ Passed → Sized n × (n ≤ given)
   text-passed n given all e =
       let sized = sized-passed n (outputChecked n given) all e in
@@ -109,22 +112,22 @@ module _ (rest : Answer) where
 
 -- A call's checks pass where each buffer has the places needed.
 module _ (n : ℕ) (sized : Sized n) where
-  sized-passes : (rest : Answer) → lengthChecked maxLength n rest ≡ rest
-  sized-passes rest = length-passes rest maxLength n (λ e. omega (arith, sized .some)) (sized .short)
+  pub array-passes : (rest : Answer) → lengthChecked maxLength n rest ≡ rest
+  array-passes rest = length-passes rest maxLength n (λ e. omega (arith, sized .some)) (sized .short)
 
   module _ (rest : Answer) where
     pub text-passes : (given : ℕ) → n ≤ given → textChecked n given rest ≡ rest
-    text-passes given room = sized-passes _ ∙ output-passes rest n given room
+    text-passes given room = array-passes _ ∙ output-passes rest n given room
 
     pub ordered-text-passes : (order given : ℕ) → order ≤ 1 → n ≤ given → orderedTextChecked n order given rest ≡ rest
-    ordered-text-passes order given named room = sized-passes _ ∙ order-passes _ 1 order named ∙ output-passes rest n given room
+    ordered-text-passes order given named room = array-passes _ ∙ order-passes _ 1 order named ∙ output-passes rest n given room
 
     pub forest-passes : (first past : ℕ) → n ≤ first → n ≤ past → forestChecked n first past rest ≡ rest
-    forest-passes first past first-room past-room = sized-passes _ ∙ output-passes _ n first first-room ∙ output-passes rest n past past-room
+    forest-passes first past first-room past-room = array-passes _ ∙ output-passes _ n first first-room ∙ output-passes rest n past past-room
 
     pub runs-passes : (list work : ℕ) → runListLength n ≤ list → workLength n ≤ work → runsChecked n list work rest ≡ rest
     runs-passes list work list-room work-room =
-        sized-passes _ ∙ output-passes _ (runListLength n) list list-room ∙ work-passes rest (workLength n) work work-room
+        array-passes _ ∙ output-passes _ (runListLength n) list list-room ∙ work-passes rest (workLength n) work work-room
 
 -- The checks, where they refuse: together with the laws above, each is given whenever its condition holds, and never otherwise.
 module _ (rest : Answer) where

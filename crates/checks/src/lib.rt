@@ -3,7 +3,7 @@
 pub mod limits;
 
 use answer::Reason;
-ghost use Rattle.answer.specs.Limits.{runListLength, workLength};
+ghost use Rattle.answer.specs.Limits.{maxLength, runListLength, workLength};
 ghost use Rattle.answer.specs.Answers.{refusedIf};
 ghost use Rattle.checks.specs.Checks.{Adds, emptyChecked, limitChecked, lengthChecked, orderChecked, outputChecked, workChecked, inputChecked, textChecked, orderedTextChecked, forestChecked, runsChecked, readerChecked};
 ghost use Rattle.checks.specs.declared.Check.the-variants.{Passed};
@@ -12,6 +12,13 @@ ghost use Rattle.checks.specs.declared.Check.the-variants.{Passed};
 pub enum Check {
     Passed,
     Failed { reason: Reason, position: u32 },
+}
+
+// 1 and 2: a call on n entries that writes nothing.
+pub fn array(n: usize) -> Check
+    ensures check { λ r. ⌜ Adds Passed r (lengthChecked maxLength n) ⌝ }
+{
+    length(Check::Passed, limits::MAX_LENGTH, n)
 }
 
 // 1, 2 and 4: a call on n letters or entries that needs as many places.

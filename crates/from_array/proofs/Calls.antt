@@ -1,4 +1,4 @@
--- What an accepted array is.
+-- What the check of an array says where its length is checked before, and what an accepted array is.
 -- Assumes nothing.
 use mathlib.Core.Path.{_≡_, refl, sym, ap, subst, _∙_}
 use mathlib.Core.List.{List}
@@ -9,7 +9,13 @@ use Rattle.words.specs.Compute.ValidArray.{Verdict, fits, fault, HasVerdict, ch
 use Rattle.answer.specs.declared.Answer.{Answer}
 use Rattle.answer.specs.declared.Outcome.the-variants.{Accepted}
 use Rattle.answer.specs.Answers.{acceptedWith, accepted-apart}
-use Rattle.from_array.specs.Answers.{verdictAnswer, arrayChecked}
+use Rattle.answer.specs.AcceptedContent.{Sized}
+use Rattle.checks.specs.CheckLaws.{array-passes}
+use Rattle.valid_array.specs.Answers.{verdictAnswer, arrayChecked, checkAnswer}
+
+-- The check of an array whose length no call refuses answers as its entries and spans say.
+pub check-sized : (a : List ℕ) → Sized (length a) → checkAnswer a ≡ arrayChecked a
+check-sized a sized = array-passes (length a) sized (arrayChecked a)
 
 -- An accepted array is valid, and the count is its length.
 pub record Accepting (a : List ℕ) (count : ℕ) : Type 0 where

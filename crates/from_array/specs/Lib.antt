@@ -1,4 +1,3 @@
 pub mod Answers
 pub mod Theorems
-pub mod Checked
 pub mod Marked

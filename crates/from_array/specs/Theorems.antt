@@ -22,7 +22,8 @@ use Rattle.answer.specs.Answers.{acceptedWith, number}
 use Rattle.answer.specs.AfterCall.{contentAfter}
 use Rattle.answer.specs.AcceptedContent.{Sized, written-first, written-rest}
 use Rattle.checks.specs.CheckLaws.{text-passes, forest-passes}
-use Rattle.from_array.specs.Answers.{verdictAnswer, arrayChecked, reconstructAnswer, rightForestAnswer}
+use Rattle.valid_array.specs.Answers.{verdictAnswer, arrayChecked}
+use Rattle.from_array.specs.Answers.{reconstructAnswer, rightForestAnswer}
 
 -- An answer that refuses the array: document 01's number 6, 7 or 8.
 pub record RefusesArray (r : Answer) : Type 0 where

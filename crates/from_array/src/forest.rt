@@ -1,7 +1,5 @@
 // The right forest of every text that has an array (document 01's right forest). Contracts cite
 // `specs/Answers.antt`, `specs/Marked.antt` and the definitions of `words`. Nothing is assumed.
-use super::check::check;
-use super::entries::end_of;
 use super::mark::mark;
 use answer::Answer;
 use answer::Outcome;
@@ -54,7 +52,7 @@ fn past_at(array: &[u32], first: u32, j: usize) -> u32
     if first == own {
         return own;
     }
-    end_of(array, j) as u32
+    (j + letters::wide(array[j])) as u32
 }
 
 // PAST, from FIRST.
@@ -83,7 +81,7 @@ pub fn right_forest(array: &[u32], first: &mut [u32], past: &mut [u32]) -> Answe
     match c {
         Check::Failed { reason, position } => answer::refused(reason, position),
         Check::Passed => {
-            let verdict = check(array);
+            let verdict = valid_array::check(array);
             let outcome = verdict.outcome;
             let Outcome::Accepted { count } = outcome else {
                 return verdict;

@@ -1,6 +1,5 @@
 // Positions marked from the span that holds them. Contracts cite `specs/Marked.antt`. Nothing is
 // assumed.
-use super::entries::end_of;
 ghost use Prim.Native.Nat.{_<_};
 ghost use lib.ListN.{length};
 ghost use Rattle.from_array.specs.Marked.{ArrayRoom, Marked};
@@ -12,10 +11,10 @@ pub(crate) fn mark(array: &[u32], out: &mut [u32], i: usize, value: u32)
     requires { ⌜ i < length (now array) ⌝ }
     ensures content { λ _. ⌜ Marked (now (array .entry)) i value (now (out .entry)) (now (out .exit)) ⌝ }
 {
-    let end = end_of(array, i);
+    let end = i + letters::wide(array[i]);
     let mut k = i + 1;
     while k < end {
         out[k] = value;
-        k = end_of(array, k);
+        k += letters::wide(array[k]);
     }
 }

@@ -1,7 +1,5 @@
 // A text that has a given array (document 01's judge). Contracts cite `specs/Answers.antt`,
 // `specs/Marked.antt` and the definitions of `words`. Nothing is assumed.
-use super::check::check;
-use super::entries::end_of;
 use super::mark::mark;
 use answer::Answer;
 use answer::Outcome;
@@ -39,7 +37,7 @@ fn write_letters(array: &[u32], text: &mut [u32])
     while i < n {
         let depth = text[i];
         mark(array, text, i, depth + 1);
-        let left = n - end_of(array, i);
+        let left = n - (i + letters::wide(array[i]));
         text[i] = depth + (left as u32);
         i += 1;
     }
@@ -55,7 +53,7 @@ pub fn reconstruct(array: &[u32], text: &mut [u32]) -> Answer
     match c {
         Check::Failed { reason, position } => answer::refused(reason, position),
         Check::Passed => {
-            let verdict = check(array);
+            let verdict = valid_array::check(array);
             let outcome = verdict.outcome;
             let Outcome::Accepted { count } = outcome else {
                 return verdict;

@@ -8,12 +8,13 @@ use lib.ListN.{length}
 use borrow.Author.Needs.{needs}
 use Rattle.words.specs.ArrayForest.{firstFor, pastFor, forestFirst, forestPast}
 use Rattle.answer.specs.Answers.{acceptedWith}
-use Rattle.answer.specs.Limits.{maxLength}
+use Rattle.answer.specs.AcceptedContent.{Sized}
 use Rattle.answer.specs.AfterLaws.{content-refused, content-told, content-accepted}
 use Rattle.checks.specs.CheckLaws.{passing, failing, forest-passed}
-use Rattle.from_array.specs.Answers.{arrayChecked, rightForestAnswer}
+use Rattle.valid_array.specs.Answers.{arrayChecked}
+use Rattle.from_array.specs.Answers.{rightForestAnswer}
 use Rattle.answer.specs.Content.{Holds}
-use Rattle.from_array.proofs.Calls.{Accepting, accepting}
+use Rattle.from_array.proofs.Calls.{check-sized, Accepting, accepting}
 use Rattle.answer.specs.ContentLaws.{holds-written}
 use Rattle.from_array.proofs.forest.right_forest.Statement.{statement}
 use Rattle.from_array.proofs.forest.right_forest.Tie as tie
@@ -31,13 +32,15 @@ first c = start c .args .first .now
 abbrev past : tie.After-enum-told → List ℕ
 past c = start c .args .past .now
 
-room : (c : tie.After-enum-told) → (length (a c) ≤ maxLength) × (length (a c) ≤ length (first c)) × (length (a c) ≤ length (past c))
-room c =
-    let known = forest-passed (length (a c)) (length (first c)) (length (past c)) (c .before .before .forest .ensures) (c .enum-told .given .1) in
-    (known .0 .short, known .1, known .2)
+room : (c : tie.After-enum-told) → Sized (length (a c)) × (length (a c) ≤ length (first c)) × (length (a c) ≤ length (past c))
+room c = forest-passed (length (a c)) (length (first c)) (length (past c)) (c .before .before .forest .ensures) (c .enum-told .given .1)
 
 checked : (c : tie.After-enum-told) → rightForestAnswer (a c) (length (first c)) (length (past c)) ≡ arrayChecked (a c)
 checked c = passing (c .before .before .forest .ensures) _ (c .enum-told .given .1)
+
+-- The length is checked once more, and passes.
+verdict : (c : tie.After-check) → c .check .result ≡ arrayChecked (a (c .before))
+verdict c = c .check .ensures ∙ check-sized (a (c .before)) (room (c .before) .0)
 
 -- The array is accepted.
 abbrev passed : tie.After-known-told2 → tie.After-enum-told
@@ -46,7 +49,7 @@ passed c = c .before .before .before .before
 accepted-here : (c : tie.After-known-told2) → Accepting (a (passed c)) (c .before .outcome .given .0 .0)
 accepted-here c =
     accepting (a (passed c)) (c .before .before .before .check .result) (c .before .outcome .given .0 .0)
-    (c .before .before .before .check .ensures)
+    (verdict (c .before .before .before))
     (c .before .outcome .given .1)
 
 -- FIRST is written.
@@ -70,7 +73,7 @@ enum-told : tie.Need-enum-told
 enum-told c = search needs
 
 check-requires : tie.Need-check-requires
-check-requires c κs = room c .0
+check-requires c κs = search needs
 
 enum-known-outcome : tie.Need-enum-known-outcome
 enum-known-outcome c = search needs
@@ -82,7 +85,7 @@ returns : tie.Need-returns
 returns c =
     let k = c .before .before in
     let e = k .before in (
-      k .check .ensures ∙ sym (checked e),
+      verdict k ∙ sym (checked e),
       (
         content-told _ _ _ (c .enum-told2 .given .1) (forestFirst (a e)) (first e),
         content-told _ _ _ (c .enum-told2 .given .1) (forestPast (a e)) (past e),
@@ -92,13 +95,13 @@ returns c =
 write-first-requires : tie.Need-write-first-requires
 write-first-requires c κs =
     let known = room (passed (c .before)) in
-    record { valid = accepted-here (c .before) .valid; short = known .0; fits = known .1 }
+    record { valid = accepted-here (c .before) .valid; short = known .0 .short; fits = known .1 }
 
 write-past-requires : tie.Need-write-past-requires
 write-past-requires c κs =
     let wrote = c .before .before .before .before in
     let known = room (passed (told wrote)) in (
-      record { valid = accepted-here (told wrote) .valid; short = known .0; fits = known .2 },
+      record { valid = accepted-here (told wrote) .valid; short = known .0 .short; fits = known .2 },
       (omega (arith, wrote-first wrote .others .size, known .1), wrote-first wrote .value),
     )
 

@@ -7,11 +7,12 @@ use lib.ListN.{length}
 use borrow.Author.Needs.{needs}
 use Rattle.words.specs.ValidArray.{letterFor, textFor}
 use Rattle.answer.specs.Answers.{acceptedWith}
-use Rattle.answer.specs.Limits.{maxLength}
+use Rattle.answer.specs.AcceptedContent.{Sized}
 use Rattle.answer.specs.AfterLaws.{content-refused, content-told, content-accepted}
 use Rattle.checks.specs.CheckLaws.{passing, failing, text-passed}
-use Rattle.from_array.specs.Answers.{arrayChecked, reconstructAnswer}
-use Rattle.from_array.proofs.Calls.{Accepting, accepting}
+use Rattle.valid_array.specs.Answers.{arrayChecked}
+use Rattle.from_array.specs.Answers.{reconstructAnswer}
+use Rattle.from_array.proofs.Calls.{check-sized, Accepting, accepting}
 use Rattle.answer.specs.ContentLaws.{holds-written}
 use Rattle.from_array.proofs.text.reconstruct.Statement.{statement}
 use Rattle.from_array.proofs.text.reconstruct.Tie as tie
@@ -26,13 +27,15 @@ a c = start c .args .array .now
 abbrev text : tie.After-enum-told → List ℕ
 text c = start c .args .text .now
 
-room : (c : tie.After-enum-told) → (length (a c) ≤ maxLength) × (length (a c) ≤ length (text c))
-room c =
-    let known = text-passed (length (a c)) (length (text c)) (c .before .before .text .ensures) (c .enum-told .given .1) in
-    (known .0 .short, known .1)
+room : (c : tie.After-enum-told) → Sized (length (a c)) × (length (a c) ≤ length (text c))
+room c = text-passed (length (a c)) (length (text c)) (c .before .before .text .ensures) (c .enum-told .given .1)
 
 checked : (c : tie.After-enum-told) → reconstructAnswer (a c) (length (text c)) ≡ arrayChecked (a c)
 checked c = passing (c .before .before .text .ensures) _ (c .enum-told .given .1)
+
+-- The length is checked once more, and passes.
+verdict : (c : tie.After-check) → c .check .result ≡ arrayChecked (a (c .before))
+verdict c = c .check .ensures ∙ check-sized (a (c .before)) (room (c .before) .0)
 
 -- The array is accepted.
 abbrev passed : tie.After-known-told2 → tie.After-enum-told
@@ -41,7 +44,7 @@ passed c = c .before .before .before .before
 accepted-here : (c : tie.After-known-told2) → Accepting (a (passed c)) (c .before .outcome .given .0 .0)
 accepted-here c =
     accepting (a (passed c)) (c .before .before .before .check .result) (c .before .outcome .given .0 .0)
-    (c .before .before .before .check .ensures)
+    (verdict (c .before .before .before))
     (c .before .outcome .given .1)
 
 text-requires : tie.Need-text-requires
@@ -57,7 +60,7 @@ enum-told : tie.Need-enum-told
 enum-told c = search needs
 
 check-requires : tie.Need-check-requires
-check-requires c κs = room c .0
+check-requires c κs = search needs
 
 enum-known-outcome : tie.Need-enum-known-outcome
 enum-known-outcome c = search needs
@@ -68,12 +71,12 @@ enum-told-2 c = search needs
 returns : tie.Need-returns
 returns c =
     let k = c .before .before in
-    (k .check .ensures ∙ sym (checked (k .before)), content-told _ _ _ (c .enum-told2 .given .1) (textFor (a (k .before))) (text (k .before)))
+    (verdict k ∙ sym (checked (k .before)), content-told _ _ _ (c .enum-told2 .given .1) (textFor (a (k .before))) (text (k .before)))
 
 write-letters-requires : tie.Need-write-letters-requires
 write-letters-requires c κs =
     let known = room (passed (c .before)) in
-    record { valid = accepted-here (c .before) .valid; short = known .0; fits = known .1 }
+    record { valid = accepted-here (c .before) .valid; short = known .0 .short; fits = known .1 }
 
 accepted-requires : tie.Need-accepted-requires
 accepted-requires c κs = search needs

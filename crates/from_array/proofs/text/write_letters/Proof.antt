@@ -6,7 +6,9 @@ use mathlib.Core.List.{List}
 use Prim.Native.Nat.{ℕ, _+_, _-_, _<_, _≤_}
 use native.Mathlib.Omega.{arith}
 use lib.ListN.{length, getD, set}
+use borrow.Author.Needs.{needs}
 use Rattle.words.specs.ValidArray.{holding, letterFor}
+use Rattle.words.specs.ArrayForest.{endOf}
 use Rattle.words.specs.Laws.ValidSpans.{end-inside}
 use Rattle.words.specs.Laws.ValidText.{depth-at-most, depth-of-root, depth-of-child, letter-below}
 use Rattle.answer.specs.Content.{Stored, Holds}
@@ -64,22 +66,32 @@ depth-here c =
     (c .loop-test .taken)
 
 -- After marking: the turn, the text, and what was marked.
-abbrev turn : tie.After-end-of Inv-loop μ-loop → tie.In-loop Inv-loop μ-loop
-turn c = c .before .before .before .before .before .before
+abbrev turn : tie.After-wide Inv-loop μ-loop → tie.In-loop Inv-loop μ-loop
+turn c = c .before .before .before .before .before .before .before
 
-abbrev marked : tie.After-end-of Inv-loop μ-loop → List ℕ
-marked c = c .before .before .before .mark .last .1 .0
+abbrev marked : tie.After-wide Inv-loop μ-loop → List ℕ
+marked c = c .before .before .before .before .mark .last .1 .0
 
-was-marked : (c : tie.After-end-of Inv-loop μ-loop)
+was-marked : (c : tie.After-wide Inv-loop μ-loop)
     → Marked (a (w (turn c))) (i (turn c)) (getD (text (turn c)) (i (turn c)) 0 + 1) (text (turn c)) (marked c)
-was-marked c = c .before .before .before .mark .ensures
+was-marked c = c .before .before .before .before .mark .ensures
+
+-- Where the span of the turn's position ends: in the array.
+abbrev end : tie.After-wide Inv-loop μ-loop → ℕ
+end c = i (turn c) + c .wide .result
+
+end-is : (c : tie.After-wide Inv-loop μ-loop) → end c ≡ endOf (a (w (turn c))) (i (turn c))
+end-is c = omega (arith, c .wide .ensures)
+
+end-in : (c : tie.After-wide Inv-loop μ-loop) → end c ≤ length (a (w (turn c)))
+end-in c = omega (arith, end-is c, end-inside (a (w (turn c))) (room (w (turn c)) .valid) (i (turn c)) (turn c .loop-test .taken))
 
 -- The letter that is stored.
-letter-here : (c : tie.After-end-of Inv-loop μ-loop)
-    → getD (text (turn c)) (i (turn c)) 0 + (length (a (w (turn c))) - c .end-of .result) ≡ letterFor (a (w (turn c))) (i (turn c))
+letter-here : (c : tie.After-wide Inv-loop μ-loop)
+    → getD (text (turn c)) (i (turn c)) 0 + (length (a (w (turn c))) - end c) ≡ letterFor (a (w (turn c))) (i (turn c))
 letter-here c =
-    ap (λ (d : ℕ). d + (length (a (w (turn c))) - c .end-of .result)) (depth-here (turn c)) ∙
-    ap (λ (e : ℕ). depth (a (w (turn c))) (i (turn c)) + (length (a (w (turn c))) - e)) (c .end-of .ensures)
+    ap (λ (d : ℕ). d + (length (a (w (turn c))) - end c)) (depth-here (turn c)) ∙
+    ap (λ (e : ℕ). depth (a (w (turn c))) (i (turn c)) + (length (a (w (turn c))) - e)) (end-is c)
 
 write-zeros-requires : tie.Need-write-zeros-requires Inv-loop μ-loop
 write-zeros-requires c κs = c .before .before .before .pre .fits
@@ -112,11 +124,22 @@ mark-requires c κs =
       t .loop-test .taken,
     )
 
-end-of-requires : tie.Need-end-of-requires Inv-loop μ-loop
-end-of-requires c κs = c .before .before .before .before .before .loop-test .taken
+mul-wide : tie.Need-mul-wide Inv-loop μ-loop
+mul-wide c =
+    let t = c .before .before .before .before .before in
+    omega (arith, t .loop-test .taken, room (w t) .short)
+
+shared-slice-read-wide : tie.Need-shared-slice-read-wide Inv-loop μ-loop
+shared-slice-read-wide c = c .before .before .before .before .before .before .loop-test .taken
+
+wide-requires : tie.Need-wide-requires Inv-loop μ-loop
+wide-requires c κs = search needs
+
+add-left : tie.Need-add-left Inv-loop μ-loop
+add-left c = omega (arith, end-in c, room (w (turn c)) .short)
 
 sub-left : tie.Need-sub-left Inv-loop μ-loop
-sub-left c = omega (arith, c .end-of .ensures, end-inside (a (w (turn c))) (room (w (turn c)) .valid) (i (turn c)) (turn c .loop-test .taken))
+sub-left c = end-in c
 
 cast-text : tie.Need-cast-text Inv-loop μ-loop
 cast-text c = omega (arith, room (w (turn c)) .short)
@@ -143,7 +166,7 @@ loop-again c =
     let t = turn c in
     let v = room (w t) .valid in
     let d : ℕ = getD (text t) (i t) 0 in
-    let letter : ℕ = d + (length (a (w t)) - c .end-of .result) in
+    let letter : ℕ = d + (length (a (w t)) - end c) in
     let s : Stored (i t) letter (marked c) (set (marked c) (i t) letter) =
     stored (marked c) (i t) letter (omega (arith, in-text t, was-marked c .others .size)) in (
       filling-goes-on (depth (a (w t))) (letterFor (a (w t))) (a (w t)) (zeros (w t)) v (i t) (d + 1) (text t) (marked c)
@@ -178,7 +201,10 @@ write-letters-spec =
     slice-read-depth
     add-mark
     mark-requires
-    end-of-requires
+    mul-wide
+    shared-slice-read-wide
+    wide-requires
+    add-left
     sub-left
     cast-text
     add-text

@@ -1,4 +1,4 @@
--- `from_array::entries::first_bad` meets its contract. The loop's invariant: the entries passed are in range.
+-- `valid_array::entries::first_bad` meets its contract. The loop's invariant: the entries passed are in range.
 -- Assumes nothing.
 use mathlib.Core.Path.{_≡_}
 use Prim.Native.Nat.{ℕ, _+_, _-_, _<_, _≤_}
@@ -7,8 +7,8 @@ use lib.ListN.{length, getD}
 use borrow.Author.Count.{below-more}
 use borrow.Author.Needs.{needs}
 use Rattle.words.specs.ValidArray.{InRange}
-use Rattle.from_array.proofs.entries.first_bad.Statement.{statement}
-use Rattle.from_array.proofs.entries.first_bad.Tie as tie
+use Rattle.valid_array.proofs.entries.first_bad.Statement.{statement}
+use Rattle.valid_array.proofs.entries.first_bad.Tie as tie
 
 abbrev Inv-loop : tie.InvT-loop
 Inv-loop array i₀ i = (i ≤ length array) × ((k : ℕ) → k < i → InRange array k)

@@ -1,13 +1,13 @@
--- `from_array::check::check` meets its contract: each way out has the verdict that its tests tell.
+-- `valid_array::verdict::verdict` meets its contract: each way out has the verdict that its tests tell.
 -- Assumes nothing.
 use mathlib.Core.Path.{sym, _∙_}
 use mathlib.Core.List.{List}
 use Prim.Native.Nat.{ℕ}
 use borrow.Author.Needs.{needs}
-use Rattle.from_array.specs.Checked.{EntriesInRange}
-use Rattle.from_array.proofs.Verdicts.{zero-verdict, long-verdict, all-in-range, crossing-verdict, fits-verdict}
-use Rattle.from_array.proofs.check.check.Statement.{statement}
-use Rattle.from_array.proofs.check.check.Tie as tie
+use Rattle.valid_array.specs.Checked.{EntriesInRange}
+use Rattle.valid_array.proofs.Verdicts.{zero-verdict, long-verdict, all-in-range, crossing-verdict, fits-verdict}
+use Rattle.valid_array.proofs.verdict.verdict.Statement.{statement}
+use Rattle.valid_array.proofs.verdict.verdict.Tie as tie
 
 abbrev a : tie.After-first-bad → List ℕ
 a c = c .before .before .args .array .now
@@ -77,8 +77,8 @@ returns-4 c =
     c .accepted .ensures ∙
     sym (fits-verdict (a (left .before)) (least .least-crossing .result) (in-range left) (least .least-crossing .ensures) (c .before .if3 .left))
 
-pub check-spec : {M : Type 1} → statement M
-check-spec =
+pub verdict-spec : {M : Type 1} → statement M
+verdict-spec =
     tie.close
     (tie.spec
     first-bad-requires

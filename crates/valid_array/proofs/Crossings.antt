@@ -9,7 +9,7 @@ use lib.ListN.{length}
 use Rattle.words.specs.ValidArray.{Crosses}
 use Rattle.words.specs.ArrayForest.{endOf}
 use Rattle.words.specs.Laws.ValidSpans.{Innermost, InnermostCase, held, unheld, innermost-case}
-use Rattle.from_array.specs.Checked.{EntriesInRange, CrossingFrom, LeastCrossing}
+use Rattle.valid_array.specs.Checked.{EntriesInRange, CrossingFrom, LeastCrossing}
 
 -- The walk from i has come to k: no span below k whose innermost one is that of i crosses its end.
 pub record Walk (a : List ℕ) (i k : ℕ) : Type 0 where

@@ -1,4 +1,4 @@
--- `from_array::spans::crossing_from` meets its contract. The loop's invariant is the walk's; the measure is what is left of the span.
+-- `valid_array::spans::crossing_from` meets its contract. The loop's invariant is the walk's; the measure is what is left of the span.
 -- Assumes nothing.
 use mathlib.Core.List.{List}
 use Prim.Native.Nat.{ℕ, _-_, _<_}
@@ -7,10 +7,10 @@ use native.Mathlib.Omega.{arith}
 use lib.ListN.{length}
 use borrow.Author.Needs.{needs}
 use Rattle.words.specs.ArrayForest.{endOf}
-use Rattle.from_array.specs.Checked.{EntriesInRange}
-use Rattle.from_array.proofs.Crossings.{Walk, walk-starts, walk-inside, walk-rises, walk-goes-on, walk-finds, walk-ends}
-use Rattle.from_array.proofs.spans.crossing_from.Statement.{statement}
-use Rattle.from_array.proofs.spans.crossing_from.Tie as tie
+use Rattle.valid_array.specs.Checked.{EntriesInRange}
+use Rattle.valid_array.proofs.Crossings.{Walk, walk-starts, walk-inside, walk-rises, walk-goes-on, walk-finds, walk-ends}
+use Rattle.valid_array.proofs.spans.crossing_from.Statement.{statement}
+use Rattle.valid_array.proofs.spans.crossing_from.Tie as tie
 
 abbrev Inv-loop : tie.InvT-loop
 Inv-loop array i end k₀ k = Walk array i k
@@ -48,7 +48,9 @@ loop-holds : tie.Need-loop-holds Inv-loop μ-loop
 loop-holds c = walk-starts (a c) (in-range c) (i c) (inside c)
 
 end-of-requires-2 : tie.Need-end-of-requires-2 Inv-loop μ-loop
-end-of-requires-2 c κs = walk-inside (a (c .before .before)) (in-range (c .before .before)) (i (c .before .before)) (inside (c .before .before)) (c .before .loop .k) (before-end c)
+end-of-requires-2 c κs =
+    let w = c .before .before in
+    walk-inside (a w) (in-range w) (i w) (inside w) (c .before .loop .k) (before-end c)
 
 returns : tie.Need-returns Inv-loop μ-loop
 returns c =

@@ -11,8 +11,8 @@ use Rattle.words.specs.Compute.ValidArray.{Verdict, fits, fault, HasVerdict}
 use Rattle.words.specs.Laws.ValidArray.{checkArray-computes}
 use Rattle.answer.specs.declared.Reason.the-variants.{ZeroEntry, LongEntry, CrossingSpans}
 use Rattle.answer.specs.Answers.{acceptedWith, refusedFor}
-use Rattle.from_array.specs.Answers.{verdictAnswer, arrayChecked}
-use Rattle.from_array.specs.Checked.{EntriesInRange, FirstBad, LeastCrossing}
+use Rattle.valid_array.specs.Answers.{verdictAnswer, arrayChecked}
+use Rattle.valid_array.specs.Checked.{EntriesInRange, FirstBad, LeastCrossing}
 
 module _ (a : List ℕ) where
   -- The answer to the verdict that the array has.

@@ -1,4 +1,4 @@
-// The check of an array: its first fault, or that there is none.
+// The verdict on an array: its first fault, or that there is none.
 // Contracts cite `specs/Answers.antt`. Nothing is assumed.
 use super::entries::first_bad;
 use super::spans::least_crossing;
@@ -8,10 +8,10 @@ ghost use mathlib.Core.Path.{_≡_};
 ghost use Prim.Native.Nat.{_≤_};
 ghost use lib.ListN.{length};
 ghost use Rattle.answer.specs.Limits.{maxLength};
-ghost use Rattle.from_array.specs.Answers.{arrayChecked};
+ghost use Rattle.valid_array.specs.Answers.{arrayChecked};
 
 // Refusals 6 and 7 in one pass from the left, then refusal 8; accepted where the array is valid.
-pub(crate) fn check(array: &[u32]) -> Answer
+pub(crate) fn verdict(array: &[u32]) -> Answer
     requires { ⌜ length (now array) ≤ maxLength ⌝ }
     ensures answer { λ r. ⌜ r ≡ arrayChecked (now (array .entry)) ⌝ }
 {

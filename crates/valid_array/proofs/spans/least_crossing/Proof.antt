@@ -1,4 +1,4 @@
--- `from_array::spans::least_crossing` meets its contract. The loop's invariant: walks were made from all earlier positions, and `least` is
+-- `valid_array::spans::least_crossing` meets its contract. The loop's invariant: walks were made from all earlier positions, and `least` is
 -- the least crossing that they found.
 -- Assumes nothing.
 use mathlib.Core.Logic.{⊎-elim}
@@ -6,9 +6,9 @@ use mathlib.Core.List.{List}
 use Prim.Native.Nat.{ℕ, _-_}
 use native.Mathlib.Omega.{arith}
 use lib.ListN.{length}
-use Rattle.from_array.proofs.Crossings.{Walked, walked-none, walked-lower, walked-same, walked-all}
-use Rattle.from_array.proofs.spans.least_crossing.Statement.{statement}
-use Rattle.from_array.proofs.spans.least_crossing.Tie as tie
+use Rattle.valid_array.proofs.Crossings.{Walked, walked-none, walked-lower, walked-same, walked-all}
+use Rattle.valid_array.proofs.spans.least_crossing.Statement.{statement}
+use Rattle.valid_array.proofs.spans.least_crossing.Tie as tie
 
 abbrev Inv-loop : tie.InvT-loop
 Inv-loop array least₀ i₀ least i = Walked array i least

@@ -3,7 +3,7 @@ ghost use mathlib.Core.Path.{_≡_};
 ghost use Prim.Native.Nat.{_<_};
 ghost use lib.ListN.{length};
 ghost use Rattle.words.specs.ArrayForest.{endOf};
-ghost use Rattle.from_array.specs.Checked.{FirstBad};
+ghost use Rattle.valid_array.specs.Checked.{FirstBad};
 
 // Where the span at `i` ends. The sum of a position and an entry is made in 64 bits.
 pub(crate) fn end_of(array: &[u32], i: usize) -> usize

@@ -1,9 +1,9 @@
--- `from_array::entries::end_of` meets its contract: an entry is below 2 ^ 32 and a position below 2 ^ 61, so the sum fits 64 bits.
+-- `valid_array::entries::end_of` meets its contract: an entry is below 2 ^ 32 and a position below 2 ^ 61, so the sum fits 64 bits.
 -- Assumes nothing.
 use native.Mathlib.Omega.{arith}
 use borrow.Author.Needs.{needs}
-use Rattle.from_array.proofs.entries.end_of.Statement.{statement}
-use Rattle.from_array.proofs.entries.end_of.Tie as tie
+use Rattle.valid_array.proofs.entries.end_of.Statement.{statement}
+use Rattle.valid_array.proofs.entries.end_of.Tie as tie
 
 mul-result : tie.Need-mul-result
 mul-result c = search needs

@@ -2,7 +2,7 @@
 use super::entries::end_of;
 ghost use Prim.Native.Nat.{_<_};
 ghost use lib.ListN.{length};
-ghost use Rattle.from_array.specs.Checked.{EntriesInRange, CrossingFrom, LeastCrossing};
+ghost use Rattle.valid_array.specs.Checked.{EntriesInRange, CrossingFrom, LeastCrossing};
 
 // The first span that crosses the end of the span at `i`, of those that follow one another from
 // `i + 1` on; the length of the array where none does.

@@ -1,0 +1,2 @@
+pub mod Crossings
+pub mod Verdicts
