@@ -12,10 +12,17 @@ use Rattle.fasta.specs.Reader.{readerAnswer, recordLetters}
 use Rattle.listing.specs.Decimal.{decimalOf}
 use Rattle.listing.specs.Bed.{bedLines}
 
+-- `refused` and a space.
+abbrev pub refusedLabel : List ℕ
+refusedLabel = 114 ∷ 101 ∷ 102 ∷ 117 ∷ 115 ∷ 101 ∷ 100 ∷ 32 ∷ []
+
+-- `at` between two spaces.
+abbrev pub atLabel : List ℕ
+atLabel = 32 ∷ 97 ∷ 116 ∷ 32 ∷ []
+
 -- `refused N at P` and LF.
 abbrev pub refusalLine : ℕ → ℕ → List ℕ
-refusalLine n p =
-    (114 ∷ 101 ∷ 102 ∷ 117 ∷ 115 ∷ 101 ∷ 100 ∷ 32 ∷ []) ++ (decimalOf n ++ ((32 ∷ 97 ∷ 116 ∷ 32 ∷ []) ++ (decimalOf p ++ (10 ∷ []))))
+refusalLine n p = refusedLabel ++ (decimalOf n ++ (atLabel ++ (decimalOf p ++ (10 ∷ []))))
 
 -- The lines of the record of x that starts at p: one for each run of its letters.
 abbrev pub recordListing : List ℕ → ℕ → List ℕ

@@ -4,32 +4,12 @@ ghost use Prim.Native.Nat.{_+_, _*_, _≤_};
 ghost use lib.ListN.{length};
 ghost use Rattle.answer.specs.Content.{Written};
 ghost use Rattle.fasta_record.specs.Name.{maxName};
-ghost use Rattle.listing.specs.Bed.{numberField, repeatField, bedLine, bedLines, entryWith, entriesOf};
+ghost use Rattle.listing.specs.Bed.{bedLine, bedLines, entryWith, entriesOf};
 ghost use Rattle.listing.specs.Limits.{maxLine};
 use crate::text::write_byte;
 use crate::text::write_bytes;
-use crate::text::write_decimal;
+use crate::text::write_labelled;
 use fasta_record::bytes::LINE_END;
-
-const TAB: u8 = 9;
-
-// Writes a tab and a number.
-fn write_number(n: usize, out: &mut [u8], at: usize) -> usize
-    requires { ⌜ at + length (numberField n) ≤ length (now out) ⌝ }
-    ensures content { λ r. ⌜ Written (now (out .entry)) (now (out .exit)) at r (numberField n) ⌝ }
-{
-    let next = write_byte(TAB, out, at);
-    write_decimal(n, out, next)
-}
-
-// Writes a tab and the name of a repeat.
-fn write_repeat(period: usize, out: &mut [u8], at: usize) -> usize
-    requires { ⌜ at + length (repeatField period) ≤ length (now out) ⌝ }
-    ensures content { λ r. ⌜ Written (now (out .entry)) (now (out .exit)) at r (repeatField period) ⌝ }
-{
-    let next = write_bytes(b"\tp", out, at);
-    write_decimal(period, out, next)
-}
 
 // Writes the line of the run with this start, last position and period.
 fn write_line(name: &[u8], start: u32, last: u32, period: u32, out: &mut [u8], at: usize) -> usize
@@ -37,9 +17,9 @@ fn write_line(name: &[u8], start: u32, last: u32, period: u32, out: &mut [u8], a
     ensures content { λ r. ⌜ Written (now (out .entry)) (now (out .exit)) at r (bedLine (now (name .entry)) (entryWith start last period)) ⌝ }
 {
     let past_name = write_bytes(name, out, at);
-    let past_start = write_number(start as usize, out, past_name);
-    let past_end = write_number(last as usize + 1, out, past_start);
-    let past_repeat = write_repeat(period as usize, out, past_end);
+    let past_start = write_labelled(b"\t", start as usize, out, past_name);
+    let past_end = write_labelled(b"\t", last as usize + 1, out, past_start);
+    let past_repeat = write_labelled(b"\tp", period as usize, out, past_end);
     write_byte(LINE_END, out, past_repeat)
 }
 

@@ -15,8 +15,7 @@ ghost use Rattle.listing.specs.Limits.{maxRefusal, maxListing};
 ghost use Rattle.listing.specs.Listing.{refusalLine, listingOf};
 use crate::bed::write_lines;
 use crate::text::write_byte;
-use crate::text::write_bytes;
-use crate::text::write_decimal;
+use crate::text::write_labelled;
 use answer::Outcome;
 use answer::number;
 use answer::value;
@@ -38,10 +37,8 @@ fn write_refusal(number: u32, position: u32, out: &mut [u8]) -> usize
     requires { ⌜ maxRefusal ≤ length (now out) ⌝ }
     ensures content { λ r. ⌜ Written (now (out .entry)) (now (out .exit)) 0 r (refusalLine number position) ⌝ }
 {
-    let past_refused = write_bytes(b"refused ", out, 0);
-    let past_number = write_decimal(number as usize, out, past_refused);
-    let past_at = write_bytes(b" at ", out, past_number);
-    let past_position = write_decimal(position as usize, out, past_at);
+    let past_number = write_labelled(b"refused ", number as usize, out, 0);
+    let past_position = write_labelled(b" at ", position as usize, out, past_number);
     write_byte(LINE_END, out, past_position)
 }
 

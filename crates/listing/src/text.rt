@@ -1,7 +1,7 @@
 // Bytes and numbers, written into a buffer from a position on. Each function returns the position past what it wrote.
 // Contracts cite `specs/Decimal.antt`. Nothing is assumed.
 ghost use Prim.Native.Nat.{_+_, _≤_, _<_};
-ghost use mathlib.Core.List.{[], _∷_};
+ghost use mathlib.Core.List.{[], _∷_, _++_};
 ghost use lib.ListN.{length};
 ghost use Rattle.answer.specs.Content.{Written};
 ghost use Rattle.listing.specs.Decimal.{decimalOf};
@@ -43,4 +43,13 @@ pub(crate) fn write_decimal(n: usize, out: &mut [u8], at: usize) -> usize
         out[next] = 48 + (n % 10) as u8;
         next + 1
     }
+}
+
+// Writes the bytes of `label`, and behind them n in decimal.
+pub(crate) fn write_labelled(label: &[u8], n: usize, out: &mut [u8], at: usize) -> usize
+    requires { ⌜ at + (length (now label) + length (decimalOf n)) ≤ length (now out) ⌝ }
+    ensures content { λ r. ⌜ Written (now (out .entry)) (now (out .exit)) at r (now (label .entry) ++ decimalOf n) ⌝ }
+{
+    let next = write_bytes(label, out, at);
+    write_decimal(n, out, next)
 }
