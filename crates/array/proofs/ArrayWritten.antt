@@ -1,6 +1,6 @@
 -- A buffer that is filled and restored holds the array.
 -- Assumes nothing.
-use mathlib.Core.Path.{_≡_, refl}
+use mathlib.Core.Path.{_≡_, refl, subst}
 use mathlib.Core.List.{List}
 use Prim.Native.Nat.{ℕ, _≤_}
 use native.Mathlib.Omega.{arith}
@@ -12,15 +12,18 @@ use Rattle.answer.specs.ContentLaws.{kept-then, written-places}
 use Rattle.array.specs.Core.Fill.{Filled, HasRows, AllRestored}
 use Rattle.array.specs.Core.Rows.{entryOf}
 
--- The buffer holds the array, and its other places keep their content.
-pub array-written : (order : ℕ) (x before buf after : List ℕ) → length x ≤ length before → Filled order x before buf 0 → AllRestored buf after (length x) →
-    after ≡ written (arrayOf (decided-order order) x) before
-unfolding entryOf
-array-written order x before buf after fits f r =
-    written-places (arrayOf (decided-order order) x) (length x) before after (arrayOf-holds (decided-order order) x .size) fits
-    (kept-then (f .others) (r .others)) (r .final order x refl (f .rows))
+module _ (order : ℕ) (x before buf : List ℕ) (i : ℕ) (fits : length x ≤ length before) (f : Filled order x before buf i) (end : i ≤ 0) where
+  -- All positions have been joined.
+  filled-whole : Filled order x before buf 0
+  filled-whole = let z : i ≡ 0 = omega arith in subst (Filled order x before buf) z f
 
--- The rows that a filled buffer holds.
-pub filled-rows : (order : ℕ) (x before buf : List ℕ) → length x ≤ length before → Filled order x before buf 0 → HasRows buf (length x)
-filled-rows order x before buf fits f =
-    record { order = order; text = x; size = refl; inside = omega (arith, f .others .size); rows = f .rows }
+  -- The rows that the buffer holds.
+  pub filled-rows : HasRows buf (length x)
+  filled-rows = record { order = order; text = x; size = refl; inside = omega (arith, f .others .size); rows = filled-whole .rows }
+
+  -- Once restored it holds the array, and its other places keep their content.
+  pub array-written : (after : List ℕ) → AllRestored buf after (length x) → after ≡ written (arrayOf (decided-order order) x) before
+  unfolding entryOf
+  array-written after r =
+      written-places (arrayOf (decided-order order) x) (length x) before after (arrayOf-holds (decided-order order) x .size) fits
+      (kept-then (f .others) (r .others)) (r .final order x refl (filled-whole .rows))

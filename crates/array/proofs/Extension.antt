@@ -1,14 +1,17 @@
 -- How far the suffixes at i and at the end of its word agree.
 -- Assumes nothing.
 use mathlib.Core.Path.{_≡_, subst, sym, ap, _∙_}
+use mathlib.Core.Logic.{_⊎_, ⊎-elim}
 use mathlib.Core.List.{List}
 use Prim.Native.Nat.{ℕ, _+_, _<_, _≤_, _-_}
 use native.Mathlib.Decide.{decLt}
 use native.Mathlib.Omega.{arith}
 use lib.ListN.{length, getD, take, drop, length-drop}
 use lib.Seq.{getD-drop, take-all}
+use denote.Enum.Declared.{tagOf}
 use Rattle.words.specs.Laws.SpanLyndon.{letters}
 use Rattle.letters.specs.declared.Comparison.{Comparison}
+use Rattle.letters.proofs.Comparison.{the-type}
 use Rattle.letters.specs.declared.Comparison.the-variants.{Below, Same, Above}
 use Rattle.array.specs.CommonPrefix.{commonPrefix}
 use Rattle.array.specs.Core.RunExtent.{StoppedAt, Exact, ExtendedTo}
@@ -90,8 +93,9 @@ module _ (x buf : List ℕ) (i j k : ℕ) where
       omega
       (arith, rests r h, commonPrefix-agreement (drop (i + k) x) (drop (j + k) x) .in-right, length-drop (j + k) x, w .agreeing l .within)
 
-  pub extended-same : (stop : Comparison) → stop ≡ Same → StoppedAt x buf i j k stop → j < length x → ExtendedTo x i j k stop
-  extended-same stop e w l = subst (ExtendedTo x i j k) (sym e) (w .agreeing l)
-
-  pub extended-below : (stop : Comparison) → stop ≡ Below → ExtendedTo x i j k stop
-  extended-below stop e = subst (ExtendedTo x i j k) (sym e) tt
+  -- The comparison said below or same, as its tag tells.
+  pub extended-stopped : (stop : Comparison) → (tagOf the-type stop ≡ 0) ⊎ (tagOf the-type stop ≡ 1) → StoppedAt x buf i j k stop → j < length x →
+      ExtendedTo x i j k stop
+  extended-stopped Below tag w l = tt
+  extended-stopped Same tag w l = w .agreeing l
+  extended-stopped Above tag w l = absurd (⊎-elim (λ e. omega arith) (λ e. omega arith) tag)

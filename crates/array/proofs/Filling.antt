@@ -140,7 +140,3 @@ filled-step order x before₀ before joined after i r f p fits w stored =
     rw stored
     (filled-store order x before₀ before joined (i - 1) (r .end) (r .agreed) (r .part) (min (r .agreed) (r .part))
     (subst (λ (k : ℕ). Filled order x before₀ before k) z f) fits (w .changed) (w .joining) (w .next) (omega arith) (omega arith))
-
--- Every position has been joined.
-pub filled-end : (order : ℕ) (x before buf : List ℕ) (i : ℕ) → Filled order x before buf i → i ≤ 0 → Filled order x before buf 0
-filled-end order x before buf i f h = let z : i ≡ 0 = omega arith in subst (λ (k : ℕ). Filled order x before buf k) z f

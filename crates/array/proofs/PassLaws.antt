@@ -66,13 +66,6 @@ pub passing-step : (order : ℕ) (x before buf buf′ list list′ list″ : Lis
 passing-step order x before buf buf′ list list′ list″ from i count r p h v =
     visit-more order x before buf buf′ list list′ list″ from (i - 1) i count r p (omega arith) v
 
--- Every position has been visited.
-pub passing-end : (order : ℕ) (x before buf list list′ : List ℕ) (from i count : ℕ) → Passing order x before buf list list′ from i count → i ≤ 0 →
-    Passing order x before buf list list′ from 0 count
-passing-end order x before buf list list′ from i count p h =
-    let z : i ≡ 0 = omega arith in
-    subst (λ (k : ℕ). Passing order x before buf list list′ from k count) z p
-
 -- There is room for one entry more.
 passing-room : (order : ℕ) (x before buf list list′ : List ℕ) (from i count : ℕ) → Passing order x before buf list list′ from i count → 0 < i →
     3 * from + 3 * length x ≤ length list → 3 * count + 3 ≤ length list′

@@ -6,11 +6,13 @@ use Prim.Native.Nat.{ℕ, _+_, _-_, _*_, _≤_}
 use native.Mathlib.Omega.{arith}
 use lib.ListN.{length, take, drop, length-append, length-drop, drop-of-length-le}
 use lib.Seq.{take-at, drop-at, drop-drop, take-all}
-use Rattle.words.specs.Letters.{rising}
+use Rattle.words.specs.Letters.{rising, orderOf}
 use Rattle.words.specs.Decided.{decided-rising, decided-falling, decided-order}
 use Rattle.words.specs.Equality.{decided-number-equality}
 use Rattle.words.specs.Runs.{Entry, numbers}
-use Rattle.words.specs.Laws.EachRunOnce.{EachRunOnce, each-run-once, rearranged-run-list}
+use Rattle.words.specs.Laws.EachRunOnce.{EachRunOnce, ListsDown, each-run-once, rearranged-run-list}
+use Rattle.words.specs.Laws.RunMarks.{endBound}
+use Rattle.words.specs.Laws.SpanLyndon.{letters}
 use Rattle.words.specs.Laws.Runs.{run-list-unique, numbers-length}
 use Rattle.words.specs.Compute.LyndonArray.{arrayOf, arrayOf-holds}
 use Rattle.words.specs.Laws.RunSearch.{runsOf-holds}
@@ -97,13 +99,15 @@ module _ (x : List ℕ) (work work₁ part list list₁ list₂ list₃ : List �
       }
 
 -- A pass over all positions, with every last place restored.
-pub order-done : (order : ℕ) (x before buf after list list′ : List ℕ) (from count : ℕ) → length x ≤ length before →
-    Passing order x before buf list list′ from 0 count → AllRestored buf after (length x) → OrderDone order x before after list list′ from count
-order-done order x before buf after list list′ from count fits p r =
+pub order-done : (order : ℕ) (x before buf after list list′ : List ℕ) (from i count : ℕ) → length x ≤ length before →
+    Passing order x before buf list list′ from i count → i ≤ 0 → AllRestored buf after (length x) → OrderDone order x before after list list′ from count
+order-done order x before buf after list list′ from i count fits p end r =
+    let z : i ≡ 0 = omega arith in
     record {
-      array = array-written order x before buf after fits (p .filled) r;
+      array = array-written order x before buf i fits (p .filled) end after r;
       entries = p .entries;
-      lists = p .lists;
+      lists =
+          subst (λ (m : ℕ). ListsDown (orderOf order) (letters 0 x) (length x) (endBound order (length x)) m (p .entries)) z (p .lists);
       counted = p .counted;
       content = p .content;
     }

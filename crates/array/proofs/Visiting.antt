@@ -1,11 +1,13 @@
 -- A visited position: its word is joined and stored, and its run listed.
 -- Assumes nothing.
 use mathlib.Core.Path.{_≡_, refl, subst, sym}
+use mathlib.Core.Logic.{_⊎_, ⊎-elim}
 use mathlib.Core.List.{List}
 use Prim.Native.Nat.{ℕ, suc, _+_, _<_, _≤_, _-_, min}
 use native.Mathlib.Decide.{decLt, ℕ-discrete}
 use native.Mathlib.Omega.{arith}
 use lib.ListN.{length}
+use denote.Enum.Declared.{tagOf}
 use Rattle.words.specs.Laws.Position.{Agree}
 use Rattle.words.specs.Laws.RunListing.{repeated-not-listed, root-agreement-short}
 use Rattle.words.specs.Laws.RunMarks.{endBound}
@@ -13,6 +15,7 @@ use Rattle.words.specs.Laws.SpanLyndon.{letters}
 use Rattle.words.specs.Laws.SuffixOrder.{NextSmaller, agree-less}
 use Rattle.words.specs.Letters.{orderOf}
 use Rattle.letters.specs.declared.Comparison.{Comparison}
+use Rattle.letters.proofs.Comparison.{the-type}
 use Rattle.letters.specs.declared.Comparison.the-variants.{Below, Same, Above}
 use Rattle.answer.specs.ContentLaws.{kept-all}
 use Rattle.array.specs.declared.joined.Joined.{Joined}
@@ -93,7 +96,7 @@ module _ (order : ℕ) (x before buf : List ℕ) (i : ℕ) (r : Joined) (w : Joi
       go (no l) = omega (arith, l, exact .within, w .joining .lyndon .non-empty, w .joining .inside)
 
   -- Where it said same, the run is listed at a later root.
-  pub same-not-listed : (list : List ℕ) (count : ℕ) → r .stop ≡ Same → Listed order x list list i count count
+  same-not-listed : (list : List ℕ) (count : ℕ) → r .stop ≡ Same → Listed order x list list i count count
   same-not-listed list count e =
       let q : (r .end < length x) × SameWord x i (r .end) (entryOf order x (r .end)) =
       subst (λ (c : Comparison). Stopped order x i (r .end) (r .agreed) c) e (w .stopped) in
@@ -106,9 +109,14 @@ module _ (order : ℕ) (x before buf : List ℕ) (i : ℕ) (r : Joined) (w : Joi
       (subst (λ (m : ℕ). Agree (letters 0 x) i m p) (sym (q .1 .0)) (q .1 .1)) (omega (arith, q .1 .0, nj .inside))
       (endBound order (length x)) (t .start) (suc (t .last)) (t .period))
 
-  -- It never said below.
-  pub never-below : (list : List ℕ) (count : ℕ) → r .stop ≡ Below → Listed order x list list i count count
-  never-below list count e = absurd (subst (λ (c : Comparison). Stopped order x i (r .end) (r .agreed) c) e (w .stopped))
+  -- Where the comparison did not say above, as its tag tells, nothing is listed: it never said below.
+  pub not-listed : (list : List ℕ) (count : ℕ) → (tagOf the-type (r .stop) ≡ 0) ⊎ (tagOf the-type (r .stop) ≡ 1) → Listed order x list list i count count
+  not-listed list count tag = go (r .stop) refl tag
+    where
+      go : (c : Comparison) → r .stop ≡ c → (tagOf the-type c ≡ 0) ⊎ (tagOf the-type c ≡ 1) → Listed order x list list i count count
+      go Below e t = absurd (subst (λ (c : Comparison). Stopped order x i (r .end) (r .agreed) c) e (w .stopped))
+      go Same e t = same-not-listed list count e
+      go Above e t = absurd (⊎-elim (λ z. omega arith) (λ z. omega arith) t)
 
 -- A visited position: its row is stored, and its run is listed.
 pub visited : (order : ℕ) (x before buf after list list′ : List ℕ) (i k count m : ℕ) (r : Joined) → RowsOf order x before (i + 1) →

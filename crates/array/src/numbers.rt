@@ -7,7 +7,6 @@ use letters::Comparison;
 ghost use mathlib.Core.Path.{_≡_};
 ghost use lib.ListN.{length};
 ghost use Rattle.array.specs.Core.Join.{JoinReady, JoinedTo};
-ghost use Rattle.array.specs.Core.Fill.{Filled};
 ghost use Rattle.answer.specs.Content.{TextRoom};
 ghost use Rattle.array.specs.Calls.{arrayAnswer};
 ghost use Rattle.answer.specs.AfterCall.{written, contentAfter};
@@ -75,10 +74,10 @@ pub(crate) fn join(text: &[u32], order: u32, buf: &mut [u32], i: usize) -> Joine
     }
 }
 
-// Joins at every position from the last to the first.
-fn fill(text: &[u32], order: u32, buf: &mut [u32])
+// Writes the Lyndon array of the text: joins at every position from the last to the first, and then gives the last places their entries back.
+fn compute(text: &[u32], order: u32, buf: &mut [u32])
     requires { ⌜ TextRoom (now text) (now buf) ⌝ }
-    ensures content { λ r. ⌜ Filled order (now (text .entry)) (now (buf .entry)) (now (buf .exit)) 0 ⌝ }
+    ensures content { λ r. ⌜ now (buf .exit) ≡ written (arrayOf (decided-order order) (now (text .entry))) (now (buf .entry)) ⌝ }
 {
     let mut i = text.len();
     while 0 < i {
@@ -86,14 +85,6 @@ fn fill(text: &[u32], order: u32, buf: &mut [u32])
         let w = join(text, order, buf, i);
         places::store_word(buf, i, w.end, w.agreed, w.part);
     }
-}
-
-// Writes the Lyndon array of the text.
-fn compute(text: &[u32], order: u32, buf: &mut [u32])
-    requires { ⌜ TextRoom (now text) (now buf) ⌝ }
-    ensures content { λ r. ⌜ now (buf .exit) ≡ written (arrayOf (decided-order order) (now (text .entry))) (now (buf .entry)) ⌝ }
-{
-    fill(text, order, buf);
     places::restore_all(buf, text.len());
 }
 

@@ -12,7 +12,7 @@ ghost use lib.ListN.{length};
 ghost use Rattle.answer.specs.Limits.{maxLength};
 ghost use Rattle.answer.specs.Content.{Written};
 ghost use Rattle.array.specs.Core.RunExtent.{StoppedAt, ExtendedTo, LeftExtent, AtRoot};
-ghost use Rattle.array.specs.Core.RunPass.{Listed, VisitReady, Visited, Passing, OrderDone, RunsFound};
+ghost use Rattle.array.specs.Core.RunPass.{Listed, VisitReady, Visited, OrderDone, RunsFound};
 ghost use Rattle.array.specs.Calls.{runsAnswer, runNumbers, bothArrays};
 ghost use Rattle.answer.specs.AfterCall.{contentAfter};
 
@@ -32,18 +32,15 @@ fn extended(
     if text.len() <= end {
         return 0;
     }
-    match stop {
-        Comparison::Above => {
-            if agreed < letters::wide(buf[end]) {
-                return agreed;
-            }
-            let u = &text[i + agreed..];
-            let v = &text[end + agreed..];
-            agreed + agreement::common_prefix(u, v)
-        }
-        Comparison::Same => agreed,
-        Comparison::Below => agreed,
+    let Comparison::Above = stop else {
+        return agreed;
+    };
+    if agreed < letters::wide(buf[end]) {
+        return agreed;
     }
+    let u = &text[i + agreed..];
+    let v = &text[end + agreed..];
+    agreed + agreement::common_prefix(u, v)
 }
 
 // The start of the letters before i that continue period p to the left.
@@ -117,17 +114,17 @@ fn visit(
     let stop = w.stop;
     let k = extended(text, buf, i, end, agreed, stop);
     places::store_word(buf, i, end, k, part);
-    match stop {
-        Comparison::Above => list_at(text, order, list, count, i, end, k),
-        Comparison::Same => count,
-        Comparison::Below => count,
-    }
+    let Comparison::Above = stop else {
+        return count;
+    };
+    list_at(text, order, list, count, i, end, k)
 }
 
-// Visits every position from the last to the first.
+// One order: visits every position from the last to the first, so that its array stands in the buffer, and its runs in the list from entry `from`
+// on; the number of entries then.
 fn pass(text: &[u8], order: u32, buf: &mut [u32], list: &mut [u32], from: usize) -> usize
     requires { ⌜ (length (now text) ≤ length (now buf)) × (length (now text) ≤ maxLength) × (3 * from + 3 * length (now text) ≤ length (now list)) ⌝ }
-    ensures content { λ r. ⌜ Passing order (now (text .entry)) (now (buf .entry)) (now (buf .exit)) (now (list .entry)) (now (list .exit)) from 0 r ⌝ }
+    ensures content { λ r. ⌜ OrderDone order (now (text .entry)) (now (buf .entry)) (now (buf .exit)) (now (list .entry)) (now (list .exit)) from r ⌝ }
 {
     let mut i = text.len();
     let mut count = from;
@@ -135,15 +132,6 @@ fn pass(text: &[u8], order: u32, buf: &mut [u32], list: &mut [u32], from: usize)
         i -= 1;
         count = visit(text, order, buf, list, count, i);
     }
-    count
-}
-
-// One order: its array into the buffer, and the runs of that order into the list from entry `from` on; the number of entries then.
-fn order_pass(text: &[u8], order: u32, buf: &mut [u32], list: &mut [u32], from: usize) -> usize
-    requires { ⌜ (length (now text) ≤ length (now buf)) × (length (now text) ≤ maxLength) × (3 * from + 3 * length (now text) ≤ length (now list)) ⌝ }
-    ensures content { λ r. ⌜ OrderDone order (now (text .entry)) (now (buf .entry)) (now (buf .exit)) (now (list .entry)) (now (list .exit)) from r ⌝ }
-{
-    let count = pass(text, order, buf, list, from);
     places::restore_all(buf, text.len());
     count
 }
@@ -154,8 +142,8 @@ fn find(text: &[u8], work: &mut [u32], list: &mut [u32]) -> usize
     ensures content { λ r. ⌜ RunsFound (now (text .entry)) (now (work .entry)) (now (work .exit)) (now (list .entry)) (now (list .exit)) r ⌝ }
 {
     let n = text.len();
-    let first = order_pass(text, 0, work, list, 0);
-    let count = order_pass(text, 1, &mut work[n..], list, first);
+    let first = pass(text, 0, work, list, 0);
+    let count = pass(text, 1, &mut work[n..], list, first);
     sorting::sort_triples(list, count);
     count
 }

@@ -11,5 +11,5 @@ const DEFAULT: u32 = 0;
 pub(crate) fn compare(a: u8, b: u8) -> Comparison
     ensures answer { λ r. ⌜ r ≡ comparisonOf (decided-default .compare a b) ⌝ }
 {
-    letters::compare(letters::letter(a), letters::letter(b), DEFAULT)
+    letters::compare_bytes(a, b, DEFAULT)
 }

@@ -13,13 +13,6 @@ pub enum Comparison {
     Above,
 }
 
-// A byte as a letter.
-pub fn letter(x: u8) -> u32
-    ensures number { λ r. ⌜ r ≡ x ⌝ }
-{
-    x as u32
-}
-
 // A number of a buffer as a position.
 pub fn wide(x: u32) -> usize
     ensures number { λ r. ⌜ r ≡ x ⌝ }
@@ -48,4 +41,11 @@ pub fn compare(a: u32, b: u32, order: u32) -> Comparison
     } else {
         Comparison::Above
     }
+}
+
+// The same question of two bytes.
+pub fn compare_bytes(a: u8, b: u8, order: u32) -> Comparison
+    ensures answer { λ r. ⌜ r ≡ comparisonOf (decided-order order .compare a b) ⌝ }
+{
+    compare(a as u32, b as u32, order)
 }

@@ -2,6 +2,7 @@
 -- Assumes nothing.
 use borrow.Author.Needs.{needs}
 use native.Mathlib.Omega.{arith}
+use mathlib.Core.Path.{refl}
 use mathlib.Core.Logic.{⊎-elim}
 use Prim.Native.Nat.{_+_, _-_}
 use lib.ListN.{length}
@@ -36,7 +37,7 @@ abbrev begun : tie.Else2 Inv-loop2 μ-loop2 Inv-loop μ-loop → tie.After-remem
 begun c = c .before .before
 
 abbrev turn : tie.Else4 Inv-loop2 μ-loop2 Inv-loop μ-loop → tie.Else2 Inv-loop2 μ-loop2 Inv-loop μ-loop
-turn c = c .before .before .before .before .before
+turn c = c .before .before .before
 
 abbrev began : tie.Joined2 Inv-loop2 μ-loop2 Inv-loop μ-loop → tie.After-remembered Inv-loop2 μ-loop2 Inv-loop μ-loop
 began c = c .before .before
@@ -54,9 +55,7 @@ facts c = search comparing
 more : (c : tie.Else4 Inv-loop2 μ-loop2 Inv-loop μ-loop) →
     Agreeing (call (head (begun (turn c))) .args .text .now) (call (head (begun (turn c))) .args .i) (head (begun (turn c)) .loop .j)
     (turn c .before .loop2 .k + 1)
-more c =
-    agree-more (facts (begun (turn c))) (turn c .before .loop2 .inv) (c .before .before .before .letter .ensures)
-    (c .before .letter2 .ensures) (turn c .if2 .left) (c .if4 .left)
+more c = agree-more (facts (begun (turn c))) (turn c .before .loop2 .inv) refl refl (turn c .if2 .left) (c .if4 .left)
 
 -- What the comparison says: each way out of it, by the tests on that way.
 told : (c : tie.Joined2 Inv-loop2 μ-loop2 Inv-loop μ-loop) →
@@ -67,7 +66,7 @@ told c =
     let g = c .before .loop2 .inv in
     ⊎-elim (λ r. search (ended-same w g))
     (⊎-elim (λ r. search (ended-above w g))
-    (⊎-elim (λ r. search (past-below w g)) (⊎-elim (λ r. search (letter-told w g)) (λ r. search (settled-below w g)))))
+    (⊎-elim (λ r. search (past-below w g)) (⊎-elim (λ r. search (letter-told w g refl refl)) (λ r. search (settled-below w g refl refl)))))
     (c .if2 .came)
 
 add-j : tie.Need-add-j Inv-loop2 μ-loop2 Inv-loop μ-loop
@@ -94,26 +93,20 @@ remembered-requires c κs = search factor-fits
 loop2-holds : tie.Need-loop2-holds Inv-loop2 μ-loop2 Inv-loop μ-loop
 loop2-holds c = agreeing-start (facts c)
 
-add-letter : tie.Need-add-letter Inv-loop2 μ-loop2 Inv-loop μ-loop
-add-letter c = omega (arith, facts (begun c))
+add-a : tie.Need-add-a Inv-loop2 μ-loop2 Inv-loop μ-loop
+add-a c = omega (arith, facts (begun c))
 
-shared-slice-read-letter : tie.Need-shared-slice-read-letter Inv-loop2 μ-loop2 Inv-loop μ-loop
-shared-slice-read-letter c = omega (arith, facts (begun (c .before)))
+shared-slice-read-a : tie.Need-shared-slice-read-a Inv-loop2 μ-loop2 Inv-loop μ-loop
+shared-slice-read-a c = omega (arith, facts (begun (c .before)))
 
-letter-requires : tie.Need-letter-requires Inv-loop2 μ-loop2 Inv-loop μ-loop
-letter-requires c κs = search needs
+add-b : tie.Need-add-b Inv-loop2 μ-loop2 Inv-loop μ-loop
+add-b c = omega (arith, facts (begun (c .before)))
 
-add-letter-2 : tie.Need-add-letter-2 Inv-loop2 μ-loop2 Inv-loop μ-loop
-add-letter-2 c = omega (arith, facts (begun (c .before .before)))
+shared-slice-read-b : tie.Need-shared-slice-read-b Inv-loop2 μ-loop2 Inv-loop μ-loop
+shared-slice-read-b c = omega (arith, facts (begun (c .before .before)))
 
-shared-slice-read-letter-2 : tie.Need-shared-slice-read-letter-2 Inv-loop2 μ-loop2 Inv-loop μ-loop
-shared-slice-read-letter-2 c = omega (arith, facts (begun (c .before .before .before)))
-
-letter-requires-2 : tie.Need-letter-requires-2 Inv-loop2 μ-loop2 Inv-loop μ-loop
-letter-requires-2 c κs = search needs
-
-compare-requires : tie.Need-compare-requires Inv-loop2 μ-loop2 Inv-loop μ-loop
-compare-requires c κs = search needs
+compare-bytes-requires : tie.Need-compare-bytes-requires Inv-loop2 μ-loop2 Inv-loop μ-loop
+compare-bytes-requires c κs = search needs
 
 add-k : tie.Need-add-k Inv-loop2 μ-loop2 Inv-loop μ-loop
 add-k c = search needs
@@ -182,13 +175,11 @@ join-spec =
     sub-word
     remembered-requires
     loop2-holds
-    add-letter
-    shared-slice-read-letter
-    letter-requires
-    add-letter-2
-    shared-slice-read-letter-2
-    letter-requires-2
-    compare-requires
+    add-a
+    shared-slice-read-a
+    add-b
+    shared-slice-read-b
+    compare-bytes-requires
     add-k
     settled-requires
     loop2-less

@@ -1,7 +1,7 @@
 -- `array::runs::extended` meets its contract: each case by the comparison that stopped the joining.
 -- Assumes nothing.
 use native.Mathlib.Omega.{arith}
-use Rattle.array.proofs.Extension.{extended-end, extended-letter, extended-further, further-fits, extended-same, extended-below}
+use Rattle.array.proofs.Extension.{extended-end, extended-letter, extended-further, further-fits, extended-stopped}
 use Rattle.array.specs.Core.Join.{Agreeing}
 use borrow.Author.Needs.{needs}
 use Rattle.array.proofs.runs.extended.Statement.{statement}
@@ -24,6 +24,9 @@ returns c = search extended-end
 enum-told : tie.Need-enum-told
 enum-told c = search needs
 
+returns-2 : tie.Need-returns-2
+returns-2 c = search extended-stopped
+
 mul-wide : tie.Need-mul-wide
 mul-wide c = search needs
 
@@ -33,8 +36,8 @@ shared-slice-read-wide c = search needs
 wide-requires : tie.Need-wide-requires
 wide-requires c κs = search needs
 
-returns-2 : tie.Need-returns-2
-returns-2 c = search extended-letter
+returns-3 : tie.Need-returns-3
+returns-3 c = search extended-letter
 
 add-u : tie.Need-add-u
 add-u c = omega (arith, agreeing (inside c))
@@ -68,20 +71,8 @@ add-result c =
     let at-inside = inside (c .before .before .before) in
     omega (arith, further-fits _ _ _ _ _ _ (start at-inside .pre) (at-inside .if1 .left) _ (c .common-prefix .ensures))
 
-enum-told-2 : tie.Need-enum-told-2
-enum-told-2 c = search needs
-
-enum-told-3 : tie.Need-enum-told-3
-enum-told-3 c = search needs
-
-returns-3 : tie.Need-returns-3
-returns-3 c = search extended-further
-
 returns-4 : tie.Need-returns-4
-returns-4 c = search extended-same
-
-returns-5 : tie.Need-returns-5
-returns-5 c = search extended-below
+returns-4 c = search extended-further
 
 pub extended-spec : {M : Type 1} → statement M
 extended-spec =
@@ -89,10 +80,11 @@ extended-spec =
     (tie.spec
     returns
     enum-told
+    returns-2
     mul-wide
     shared-slice-read-wide
     wide-requires
-    returns-2
+    returns-3
     add-u
     sub-u
     part-u-start
@@ -103,8 +95,4 @@ extended-spec =
     part-v-end
     common-prefix-requires
     add-result
-    enum-told-2
-    enum-told-3
-    returns-3
-    returns-4
-    returns-5)
+    returns-4)

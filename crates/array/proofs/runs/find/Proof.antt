@@ -5,23 +5,23 @@ use borrow.Author.Needs.{needs}
 use Rattle.array.proofs.runs.find.Statement.{statement}
 use Rattle.array.proofs.runs.find.Tie as tie
 
-order-pass-requires : tie.Need-order-pass-requires
-order-pass-requires c κs = search needs
+pass-requires : tie.Need-pass-requires
+pass-requires c κs = search needs
 
-mul-order-pass : tie.Need-mul-order-pass
-mul-order-pass c = search needs
+mul-pass : tie.Need-mul-pass
+mul-pass c = search needs
 
-sub-order-pass : tie.Need-sub-order-pass
-sub-order-pass c = search needs
+sub-pass : tie.Need-sub-pass
+sub-pass c = search needs
 
-part-order-pass-start : tie.Need-part-order-pass-start
-part-order-pass-start c = search needs
+part-pass-start : tie.Need-part-pass-start
+part-pass-start c = search needs
 
-part-order-pass-end : tie.Need-part-order-pass-end
-part-order-pass-end c = search needs
+part-pass-end : tie.Need-part-pass-end
+part-pass-end c = search needs
 
-order-pass-requires-2 : tie.Need-order-pass-requires-2
-order-pass-requires-2 c κs = search needs
+pass-requires-2 : tie.Need-pass-requires-2
+pass-requires-2 c κs = search needs
 
 sort-triples-requires : tie.Need-sort-triples-requires
 sort-triples-requires c κs = search needs
@@ -39,12 +39,12 @@ pub find-spec : {M : Type 1} → statement M
 find-spec =
     tie.close
     (tie.spec
-    order-pass-requires
-    mul-order-pass
-    sub-order-pass
-    part-order-pass-start
-    part-order-pass-end
-    order-pass-requires-2
+    pass-requires
+    mul-pass
+    sub-pass
+    part-pass-start
+    part-pass-end
+    pass-requires-2
     sort-triples-requires
     same-length
     same-length-2

@@ -1,11 +1,13 @@
--- `array::runs::pass` meets its contract: the positions from i on have been visited.
+-- `array::runs::pass` meets its contract: the positions from i on have been visited, and in the end every last place has its entry back.
 -- Assumes nothing.
 use borrow.Author.Needs.{needs}
 use native.Mathlib.Omega.{arith}
 use Prim.Native.Nat.{_≤_}
 use lib.ListN.{length}
 use Rattle.array.specs.Core.RunPass.{Passing}
-use Rattle.array.proofs.PassLaws.{passing-start, passing-ready, passing-step, passing-end, passing-length}
+use Rattle.array.proofs.ArrayWritten.{filled-rows}
+use Rattle.array.proofs.RunsFound.{order-done}
+use Rattle.array.proofs.PassLaws.{passing-start, passing-ready, passing-step, passing-length}
 use Rattle.array.proofs.runs.pass.Statement.{statement}
 use Rattle.array.proofs.runs.pass.Tie as tie
 
@@ -30,6 +32,9 @@ loop-less c = search needs
 loop-again : tie.Need-loop-again Inv-loop μ-loop
 loop-again c = (omega arith, search passing-step)
 
+restore-all-requires : tie.Need-restore-all-requires Inv-loop μ-loop
+restore-all-requires c κs = search filled-rows
+
 same-length : tie.Need-same-length Inv-loop μ-loop
 same-length c = search needs
 
@@ -37,7 +42,7 @@ same-length-2 : tie.Need-same-length-2 Inv-loop μ-loop
 same-length-2 c = search passing-length
 
 returns : tie.Need-returns Inv-loop μ-loop
-returns c = search passing-end
+returns c = search order-done
 
 pub pass-spec : {M : Type 1} → statement M
 pass-spec =
@@ -50,6 +55,7 @@ pass-spec =
     visit-requires
     loop-less
     loop-again
+    restore-all-requires
     same-length
     same-length-2
     returns)
