@@ -1,5 +1,3 @@
-pub mod Decimal
-pub mod Bed
 pub mod Listing
 pub mod Theorems
 pub mod Examples

@@ -1,6 +1,6 @@
 -- What the repeat lister prints (document 01, "The FASTA reader and the repeat lister").
 -- Assumes nothing.
-use mathlib.Core.List.{List, [], _∷_, _++_}
+use mathlib.Core.List.{List}
 use Prim.Native.Nat.{ℕ}
 use Rattle.answer.specs.declared.Outcome.{Outcome}
 use Rattle.answer.specs.declared.Outcome.the-variants.{Accepted, Refused}
@@ -9,20 +9,8 @@ use Rattle.answer.specs.Limits.{maxLetters}
 use Rattle.array.specs.Calls.{runList}
 use Rattle.fasta_record.specs.Record.{recordName}
 use Rattle.fasta.specs.Reader.{readerAnswer, recordLetters}
-use Rattle.listing.specs.Decimal.{decimalOf}
-use Rattle.listing.specs.Bed.{bedLines}
-
--- `refused` and a space.
-abbrev pub refusedLabel : List ℕ
-refusedLabel = 114 ∷ 101 ∷ 102 ∷ 117 ∷ 115 ∷ 101 ∷ 100 ∷ 32 ∷ []
-
--- `at` between two spaces.
-abbrev pub atLabel : List ℕ
-atLabel = 32 ∷ 97 ∷ 116 ∷ 32 ∷ []
-
--- `refused N at P` and LF.
-abbrev pub refusalLine : ℕ → ℕ → List ℕ
-refusalLine n p = refusedLabel ++ (decimalOf n ++ (atLabel ++ (decimalOf p ++ (10 ∷ []))))
+use Rattle.bed.specs.Bed.{bedLines}
+use Rattle.bed.specs.Refusal.{refusalLine}
 
 -- The lines of the record of x that starts at p: one for each run of its letters.
 abbrev pub recordListing : List ℕ → ℕ → List ℕ

@@ -19,8 +19,9 @@ use Rattle.fasta.specs.CheckOrder.{Refuses, Accepts}
 use Rattle.fasta.specs.Reader.{lettersOf}
 use Rattle.fasta.specs.RowTheorems.{refused-exactly, accepted-exactly, letters-are, accepted-name}
 use Rattle.fasta.specs.Laws.NameBytes.{name-unique}
-use Rattle.listing.specs.Bed.{bedLines}
-use Rattle.listing.specs.Listing.{refusalLine, listingFor, listingOf}
+use Rattle.bed.specs.Bed.{bedLines}
+use Rattle.bed.specs.Refusal.{refusalLine}
+use Rattle.listing.specs.Listing.{listingFor, listingOf}
 
 module _ (x : List ℕ) where
   -- An input that a row refuses has one line: `refused N at P`, the row's number and position.
@@ -34,7 +35,9 @@ module _ (x : List ℕ) where
   accepted-listing c p e rs h name header runs =
       let letters : lettersOf x ≡ map letterOf (sequenceLetters x e) = letters-are x e header in
       let same : runsOf decided-number-equality (lettersOf x) ≡ rs =
-      run-list-unique (subst (λ (l : List ℕ). IsRunList l (runsOf decided-number-equality (lettersOf x))) letters (runsOf-holds decided-number-equality (lettersOf x))) runs in
+      run-list-unique
+      (subst (λ (l : List ℕ). IsRunList l (runsOf decided-number-equality (lettersOf x))) letters (runsOf-holds decided-number-equality (lettersOf x)))
+      runs in
       let answer = accepted-exactly x maxLetters c .1 h in
       ap (λ (a : Answer). listingFor (a .outcome) x) answer ∙
       ap₂ bedLines (ap (λ (q : ℕ). take (q - 1) (drop 1 x)) (name-unique (accepted-name x maxLetters c answer) name)) same

@@ -1,26 +1,21 @@
 // What the repeat lister prints: BED lines, or the line of a refusal.
 // Contracts cite `specs/Listing.antt`. Nothing is assumed.
-pub mod bed;
-pub mod text;
-
 ghost use mathlib.Core.Path.{_≡_};
-ghost use Prim.Native.Nat.{_+_, _≤_, _<_};
+ghost use Prim.Native.Nat.{_≤_, _<_};
 ghost use lib.ListN.{length};
 ghost use Rattle.answer.specs.Limits.{maxLetters, runListLength, workLength};
 ghost use Rattle.answer.specs.Content.{Written};
 ghost use Rattle.array.specs.Calls.{runList};
 ghost use Rattle.fasta_record.specs.Name.{maxName};
-ghost use Rattle.listing.specs.Bed.{bedLines};
-ghost use Rattle.listing.specs.Limits.{maxRefusal, maxListing};
-ghost use Rattle.listing.specs.Listing.{refusalLine, listingOf};
-use crate::bed::write_lines;
-use crate::text::write_byte;
-use crate::text::write_labelled;
+ghost use Rattle.bed.specs.Bed.{bedLines};
+ghost use Rattle.listing.specs.Limits.{maxListing};
+ghost use Rattle.listing.specs.Listing.{listingOf};
 use answer::Outcome;
 use answer::number;
 use answer::value;
 use array::runs::runs;
-use fasta_record::bytes::LINE_END;
+use bed::write_lines;
+use bed::write_refusal;
 
 // The most bytes that are printed for an input.
 pub const MAX_LISTING: usize = 389_120;
@@ -32,36 +27,25 @@ const WORK: usize = 2 * LETTERS;
 
 const RUNS: usize = 6 * LETTERS;
 
-// Writes the line of a refusal, with its number and position.
-fn write_refusal(number: u32, position: u32, out: &mut [u8]) -> usize
-    requires { ⌜ maxRefusal ≤ length (now out) ⌝ }
-    ensures content { λ r. ⌜ Written (now (out .entry)) (now (out .exit)) 0 r (refusalLine number position) ⌝ }
-{
-    let past_number = write_labelled(b"refused ", number as usize, out, 0);
-    let past_position = write_labelled(b" at ", position as usize, out, past_number);
-    write_byte(LINE_END, out, past_position)
-}
-
-// Seeks the runs of the letters of a record, and writes their lines under its name.
+// Seeks the runs of the letters of a record, and writes their lines under its name at the start of `out`.
 fn write_record(
     name: &[u8],
     letters: &[u8],
     work: &mut [u32],
     list: &mut [u32],
     out: &mut [u8],
-    at: usize,
 ) -> usize
     requires { ⌜ length (now name) ≤ maxName ⌝ }
     requires { ⌜ 0 < length (now letters) ⌝ }
     requires { ⌜ length (now letters) ≤ maxLetters ⌝ }
     requires { ⌜ workLength maxLetters ≤ length (now work) ⌝ }
     requires { ⌜ length (now list) ≡ runListLength maxLetters ⌝ }
-    requires { ⌜ at + maxListing ≤ length (now out) ⌝ }
-    ensures content { λ r. ⌜ Written (now (out .entry)) (now (out .exit)) at r (bedLines (now (name .entry)) (runList (now (letters .entry)))) ⌝ }
+    requires { ⌜ maxListing ≤ length (now out) ⌝ }
+    ensures content { λ r. ⌜ Written (now (out .entry)) (now (out .exit)) 0 r (bedLines (now (name .entry)) (runList (now (letters .entry)))) ⌝ }
 {
     let answer = runs(letters, work, list);
     let count = value(answer) as usize;
-    write_lines(name, list, count, out, at)
+    write_lines(name, list, count, out)
 }
 
 // Writes all that is printed for the input: the reader's answer is taken apart before any run is sought.
@@ -90,7 +74,7 @@ fn list_repeats(
     let name = &input[1..end];
     let n = count as usize;
     let found = &letters[..n];
-    write_record(name, found, work, list, out, 0)
+    write_record(name, found, work, list, out)
 }
 
 // Writes all that is printed for the input at the start of `out`, and returns how long it is. Changes nothing past it.

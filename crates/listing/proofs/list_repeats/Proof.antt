@@ -16,8 +16,9 @@ use Rattle.fasta_record.specs.Record.{nameEnd}
 use Rattle.fasta.specs.Reader.{readerAnswer, lettersOf, nameEndIn}
 use Rattle.fasta.specs.Rows.{NameEnds}
 use Rattle.fasta.specs.Laws.Accepted.{AcceptedInput, reader-accepted, letters-first}
-use Rattle.listing.specs.Bed.{bedLines}
-use Rattle.listing.specs.Listing.{refusalLine}
+use Rattle.bed.specs.Bed.{bedLines}
+use Rattle.bed.specs.Refusal.{refusalLine}
+use Rattle.bed.specs.Laws.Refusal.{refusal-fits}
 use Rattle.listing.specs.Laws.Listing.{listing-accepted, listing-refused}
 use Rattle.answer.specs.ContentLaws.{written-as}
 use borrow.Author.Needs.{needs}
@@ -58,7 +59,8 @@ module _ (c : tie.After-outcome) where
   letters : take (c .outcome .given .0 .0) (reading c .read-named .last .1 .0) ≡ lettersOf (entry (reading c) .args .input .now)
   letters =
       let args = entry (reading c) .args in
-      let held = reading c .read-named .ensures .1 .0 ∙ ap (λ (o : Outcome). contentIn o (lettersOf (args .input .now)) (args .letters .now)) (c .outcome .given .1) in
+      let held = reading c .read-named .ensures .1 .0
+      ∙ ap (λ (o : Outcome). contentIn o (lettersOf (args .input .now)) (args .letters .now)) (c .outcome .given .1) in
       ap (take (c .outcome .given .0 .0)) held ∙ letters-first (args .input .now) _ known (args .letters .now)
 
 read-named-requires : tie.Need-read-named-requires
@@ -93,7 +95,9 @@ returns c =
     let n = c .before .before .before .before .before .number .ensures ∙ ap numberIn told in
     let v = c .before .before .before .before .value .ensures ∙ ap valueIn told in
     let printed = listing-refused (entry read .args .input .now) _ _ (sym (answered read) ∙ told) in
-    written-as (c .before .before .write-refusal .ensures) (ap₂ refusalLine n v ∙ sym printed)
+    let fits = refusal-fits (c .before .before .before .before .before .number .result) (c .before .before .before .before .value .result)
+    (length (entry read .args .out .now)) (omega (arith, entry read .pre .1 .1 .1)) in
+    written-as (c .before .before .write-refusal .ensures) (fits ∙ ap₂ refusalLine n v ∙ sym printed)
 
 sub-name : tie.Need-sub-name
 sub-name c = omega (arith, named (c .before) .some)
@@ -143,7 +147,8 @@ returns-2 c =
     let outcome = c .before .before .before .before .before .before .before .before .before .before .before .before .before in
     let x = entry (reading outcome) .args .input .now in
     written-as (c .before .before .before .before .before .before .write-record .ensures)
-    (ap₂ (λ (m l : List ℕ). bedLines m (runList l)) (ap (λ (q : ℕ). take (q - 1) (drop 1 x)) (end-is outcome)) (letters outcome) ∙ sym (listing-accepted x _ (accepted outcome)))
+    (ap₂ (λ (m l : List ℕ). bedLines m (runList l)) (ap (λ (q : ℕ). take (q - 1) (drop 1 x)) (end-is outcome)) (letters outcome)
+    ∙ sym (listing-accepted x _ (accepted outcome)))
 
 pub list-repeats-spec : {M : Type 1} → statement M
 list-repeats-spec =

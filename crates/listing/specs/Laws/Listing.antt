@@ -19,8 +19,9 @@ use Rattle.answer.specs.Reasons.{numberOf}
 use Rattle.answer.specs.Limits.{maxLetters, maxInput}
 use Rattle.array.specs.Calls.{runList, runNumbers}
 use Rattle.fasta.specs.Reader.{readerAnswer}
-use Rattle.listing.specs.Bed.{entriesOf}
-use Rattle.listing.specs.Listing.{refusalLine, recordListing, listingFor, listingOf}
+use Rattle.bed.specs.Bed.{entriesOf}
+use Rattle.bed.specs.Refusal.{refusalLine}
+use Rattle.listing.specs.Listing.{recordListing, listingFor, listingOf}
 
 -- The runs are read back from their numbers.
 entries-numbers : (rs : List Entry) (rest : List ℕ) → entriesOf (length rs) (numbers rs ++ rest) ≡ rs

@@ -4,7 +4,7 @@ ghost use Prim.Native.Nat.{_+_, _≤_, _<_};
 ghost use mathlib.Core.List.{[], _∷_, _++_};
 ghost use lib.ListN.{length};
 ghost use Rattle.answer.specs.Content.{Written};
-ghost use Rattle.listing.specs.Decimal.{decimalOf};
+ghost use Rattle.bed.specs.Decimal.{decimalOf};
 
 // Writes one byte.
 pub(crate) fn write_byte(byte: u8, out: &mut [u8], at: usize) -> usize

@@ -4,17 +4,17 @@ use mathlib.Core.Path.{ap}
 use borrow.Author.Needs.{needs}
 use native.Mathlib.Omega.{arith}
 use lib.ListN.{length}
-use Rattle.listing.specs.Decimal.{digit}
-use Rattle.listing.specs.Laws.Decimal.{decimal-one, decimal-more, decimal-length-more}
+use Rattle.bed.specs.Decimal.{digit}
+use Rattle.bed.specs.Laws.Decimal.{decimal-one, decimal-more, decimal-length-more}
 use Rattle.answer.specs.ContentLaws.{written-one, written-room, written-append}
 use Prim.Native.Nat.{ℕ, _%_, _<_}
 use borrow.Fn.Kinds.{In}
 use borrow.Fn.PlainCycle.{Measures, is, falls, and}
-use Rattle.listing.proofs.text.write_decimal.Reads as write-decimal
-use Rattle.listing.proofs.text.write_decimal.Kinds as write-decimal-kinds
-use Rattle.listing.proofs.text.+write_decimal.Lts-write_decimal as write-decimal-lts
-use Rattle.listing.proofs.text.+write_decimal.{statement}
-use Rattle.listing.proofs.text.+write_decimal.Tie.{close}
+use Rattle.bed.proofs.text.write_decimal.Reads as write-decimal
+use Rattle.bed.proofs.text.write_decimal.Kinds as write-decimal-kinds
+use Rattle.bed.proofs.text.+write_decimal.Lts-write_decimal as write-decimal-lts
+use Rattle.bed.proofs.text.+write_decimal.{statement}
+use Rattle.bed.proofs.text.+write_decimal.Tie.{close}
 
 abbrev μ-write-decimal : Measures 1 write-decimal-kinds.ps ℕ
 μ-write-decimal κs a = a .0
@@ -110,7 +110,8 @@ write-decimal-returns : (t : ℕ) → write-decimal-lts.Need-returns (
 ) (write-decimal-at t) write-decimal.Post
 write-decimal-returns t c =
     let args = c .before .before .args in
-    rw (decimal-one (args .n) (c .if1 .taken)) (written-one (args .out .now) (args .at) (digit (args .n)) (omega (arith, ap length (decimal-one (args .n) (c .if1 .taken)))))
+    let one = decimal-one (args .n) (c .if1 .taken) in
+    rw one (written-one (args .out .now) (args .at) (digit (args .n)) (omega (arith, ap length one)))
 
 write-decimal-same-length-2 : (t : ℕ) → write-decimal-lts.Need-same-length-2 (
   write-decimal-below t,
@@ -126,8 +127,9 @@ write-decimal-returns-2 t c =
     let args = c .before .before .before .before .before .before .args in
     let called = c .before .before .write-decimal in
     let more = decimal-length-more (args .n) (c .before .before .before .before .if1 .left) in
+    let room = written-room (called .ensures) 1 (omega (arith, more)) in
     rw (decimal-more (args .n) (c .before .before .before .before .if1 .left))
-    (written-append (called .ensures) (written-one (called .last .1 .0) (called .result) (digit (args .n % 10)) (omega (arith, more, written-room (called .ensures) 1 (omega (arith, more))))))
+    (written-append (called .ensures) (written-one (called .last .1 .0) (called .result) (digit (args .n % 10)) (omega (arith, more, room))))
 
 pub +write-decimal-spec : {M : Type 1} → statement M
 +write-decimal-spec = close μ-write-decimal λ t. write-decimal-lts.spec (

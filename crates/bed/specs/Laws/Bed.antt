@@ -1,16 +1,17 @@
--- How long BED lines are.
+-- How long BED lines are, and when they are written.
 -- Assumes nothing.
 use mathlib.Core.Path.{_≡_, refl, ap}
 use mathlib.Core.List.{List, [], _∷_, _++_}
-use Prim.Native.Nat.{ℕ, zero, suc, _+_, _-_, _^_, _≤_, _<_}
+use Prim.Native.Nat.{ℕ, zero, suc, _+_, _*_, _-_, _^_, _≤_, _<_}
 use native.Mathlib.Omega.{arith}
+use borrow.Author.Tests.{lt-ltb, le-ltb}
 use lib.ListN.{length, getD, drop, length-append}
 use lib.Seq.{getD-drop, drop-drop}
 use Rattle.fasta_record.specs.Name.{maxName}
-use Rattle.listing.specs.Decimal.{decimalOf}
-use Rattle.listing.specs.Bed.{numberField, repeatField, bedLine, bedLines, entryWith, entriesOf}
-use Rattle.listing.specs.Limits.{maxLine}
-use Rattle.listing.specs.Laws.Decimal.{decimal-length}
+use Rattle.bed.specs.Decimal.{decimalOf}
+use Rattle.bed.specs.Bed.{numberField, repeatField, bedLine, bedLines, entryWith, entriesOf, linesFitting}
+use Rattle.bed.specs.Limits.{maxLine}
+use Rattle.bed.specs.Laws.Decimal.{decimal-length}
 
 -- A line is as long as its parts.
 pub line-parts :
@@ -50,3 +51,21 @@ lines-next name k i l h = ap (bedLines name) (entries-next k i l h)
 pub lines-none : (name : List ℕ) (k : ℕ) (l : List ℕ) → k ≤ 0 → bedLines name (entriesOf k l) ≡ []
 lines-none name zero l h = refl
 lines-none name (suc k) l h = absurd (omega arith)
+
+module _ (name runs : List ℕ) (count places : ℕ) where
+  -- Lines that pass the three tests are written,
+  pub lines-fit :
+      length name ≤ maxName → 3 * count ≤ length runs → maxLine * count ≤ places → linesFitting name runs count places ≡ bedLines name (entriesOf count runs)
+  lines-fit h k l = simp (le-ltb maxName (length name) h, le-ltb (length runs) (3 * count) k, le-ltb places (maxLine * count) l)
+
+  -- and none where the name is too long,
+  pub name-unfit : maxName < length name → linesFitting name runs count places ≡ []
+  name-unfit h = simp (lt-ltb maxName (length name) h)
+
+  -- or the list too short,
+  pub runs-unfit : length name ≤ maxName → length runs < 3 * count → linesFitting name runs count places ≡ []
+  runs-unfit h k = simp (le-ltb maxName (length name) h, lt-ltb (length runs) (3 * count) k)
+
+  -- or the places too few.
+  pub places-unfit : length name ≤ maxName → 3 * count ≤ length runs → places < maxLine * count → linesFitting name runs count places ≡ []
+  places-unfit h k l = simp (le-ltb maxName (length name) h, le-ltb (length runs) (3 * count) k, lt-ltb places (maxLine * count) l)

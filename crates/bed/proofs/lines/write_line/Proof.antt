@@ -1,4 +1,4 @@
--- `listing::bed::write_line` meets its contract: the parts of the line, one behind the other.
+-- `bed::lines::write_line` meets its contract: the parts of the line, one behind the other.
 -- Assumes nothing.
 use mathlib.Core.Path.{ap}
 use Prim.Native.Nat.{_+_, _≤_}
@@ -6,11 +6,11 @@ use native.Mathlib.Omega.{arith}
 use native.Mathlib.Numerals.{add-one}
 use lib.ListN.{length}
 use Rattle.answer.specs.ContentLaws.{written-room, written-append, written-as}
-use Rattle.listing.specs.Bed.{numberField, repeatField}
-use Rattle.listing.specs.Laws.Bed.{line-parts}
+use Rattle.bed.specs.Bed.{numberField, repeatField}
+use Rattle.bed.specs.Laws.Bed.{line-parts}
 use borrow.Author.Needs.{needs}
-use Rattle.listing.proofs.bed.write_line.Statement.{statement}
-use Rattle.listing.proofs.bed.write_line.Tie as tie
+use Rattle.bed.proofs.lines.write_line.Statement.{statement}
+use Rattle.bed.proofs.lines.write_line.Tie as tie
 
 -- The moment before each part that was written.
 abbrev start : tie.After-write-bytes → tie.Start

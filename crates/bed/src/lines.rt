@@ -1,11 +1,11 @@
-// BED lines, written into a buffer from a position on. Each function returns the position past what it wrote.
+// BED lines, written into a buffer that has places for them. Each function returns the position past what it wrote.
 // Contracts cite `specs/Bed.antt`. Nothing is assumed.
 ghost use Prim.Native.Nat.{_+_, _*_, _≤_};
 ghost use lib.ListN.{length};
 ghost use Rattle.answer.specs.Content.{Written};
 ghost use Rattle.fasta_record.specs.Name.{maxName};
-ghost use Rattle.listing.specs.Bed.{bedLine, bedLines, entryWith, entriesOf};
-ghost use Rattle.listing.specs.Limits.{maxLine};
+ghost use Rattle.bed.specs.Bed.{bedLine, bedLines, entryWith, entriesOf};
+ghost use Rattle.bed.specs.Limits.{maxLine};
 use crate::text::write_byte;
 use crate::text::write_bytes;
 use crate::text::write_labelled;
@@ -23,22 +23,16 @@ fn write_line(name: &[u8], start: u32, last: u32, period: u32, out: &mut [u8], a
     write_byte(LINE_END, out, past_repeat)
 }
 
-// Writes the lines of the first `count` runs of the list `runs`.
-pub(crate) fn write_lines(
-    name: &[u8],
-    runs: &[u32],
-    count: usize,
-    out: &mut [u8],
-    at: usize,
-) -> usize
+// Writes the lines of the first `count` runs of the list `runs` at the start of `out`.
+pub(crate) fn write_runs(name: &[u8], runs: &[u32], count: usize, out: &mut [u8]) -> usize
     requires { ⌜ length (now name) ≤ maxName ⌝ }
     requires { ⌜ 3 * count ≤ length (now runs) ⌝ }
-    requires { ⌜ at + maxLine * count ≤ length (now out) ⌝ }
-    ensures content { λ r. ⌜ Written (now (out .entry)) (now (out .exit)) at r (bedLines (now (name .entry)) (entriesOf count (now (runs .entry)))) ⌝ }
+    requires { ⌜ maxLine * count ≤ length (now out) ⌝ }
+    ensures content { λ r. ⌜ Written (now (out .entry)) (now (out .exit)) 0 r (bedLines (now (name .entry)) (entriesOf count (now (runs .entry)))) ⌝ }
 {
     let mut from = 0;
     let mut left = count;
-    let mut next = at;
+    let mut next = 0;
     while left > 0 {
         let start = runs[from];
         let last = runs[from + 1];

@@ -1,9 +1,9 @@
--- `listing::text::write_labelled` meets its contract: the label, and the number behind it.
+-- `bed::text::write_labelled` meets its contract: the label, and the number behind it.
 -- Assumes nothing.
 use Rattle.answer.specs.ContentLaws.{written-append}
 use borrow.Author.Needs.{needs}
-use Rattle.listing.proofs.text.write_labelled.Statement.{statement}
-use Rattle.listing.proofs.text.write_labelled.Tie as tie
+use Rattle.bed.proofs.text.write_labelled.Statement.{statement}
+use Rattle.bed.proofs.text.write_labelled.Tie as tie
 
 write-bytes-requires : tie.Need-write-bytes-requires
 write-bytes-requires c κs = search needs

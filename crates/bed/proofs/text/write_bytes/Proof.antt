@@ -1,4 +1,4 @@
--- `listing::text::write_bytes` meets its contract. The loop's invariant: the first bytes are written.
+-- `bed::text::write_bytes` meets its contract. The loop's invariant: the first bytes are written.
 -- Assumes nothing.
 use mathlib.Core.Path.{_≡_, refl, _∙_}
 use Prim.Native.Nat.{_+_, _≤_, _-_}
@@ -9,8 +9,8 @@ use lib.ListN.{length, getD, take, length-set}
 use lib.Seq.{take-suc, take-all}
 use Rattle.answer.specs.Content.{Written}
 use Rattle.answer.specs.ContentLaws.{written-none, written-one, written-append, written-as}
-use Rattle.listing.proofs.text.write_bytes.Statement.{statement}
-use Rattle.listing.proofs.text.write_bytes.Tie as tie
+use Rattle.bed.proofs.text.write_bytes.Statement.{statement}
+use Rattle.bed.proofs.text.write_bytes.Tie as tie
 
 abbrev Inv-loop : tie.InvT-loop
 Inv-loop part out₀ at i₀ next₀ out i next =

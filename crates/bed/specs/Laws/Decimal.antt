@@ -10,7 +10,7 @@ use native.Mathlib.Nat.{pow-suc}
 use borrow.Author.Tests.{lt-ltb, le-ltb, ltb-false}
 use lib.Dec.{ltb}
 use lib.ListN.{length, length-append}
-use Rattle.listing.specs.Decimal.{digit, decimalWithin, decimalOf}
+use Rattle.bed.specs.Decimal.{digit, decimalWithin, decimalOf}
 
 -- The digits of n from its last one, where k bounds them.
 abbrev digitsBy : ℕ → ℕ → Bool → List ℕ

@@ -1,4 +1,4 @@
--- `listing::bed::write_lines` meets its contract. The loop's invariant: the lines of the runs that are left are pending, and there is room for them.
+-- `bed::lines::write_runs` meets its contract. The loop's invariant: the lines of the runs that are left are pending, and there is room for them.
 -- Assumes nothing.
 use mathlib.Core.Path.{_≡_, refl, _∙_}
 use Prim.Native.Nat.{_+_, _*_, _≤_, _<_}
@@ -7,21 +7,21 @@ use borrow.Author.Needs.{needs}
 use lib.ListN.{length, getD, drop}
 use Rattle.answer.specs.Content.{Pending}
 use Rattle.answer.specs.ContentLaws.{pending-all, pending-rest, pending-none}
-use Rattle.listing.specs.Bed.{bedLine, bedLines, entryWith, entriesOf}
-use Rattle.listing.specs.Limits.{maxLine}
-use Rattle.listing.specs.Laws.Bed.{line-length, lines-next, lines-none}
-use Rattle.listing.proofs.bed.write_lines.Statement.{statement}
-use Rattle.listing.proofs.bed.write_lines.Tie as tie
+use Rattle.bed.specs.Bed.{bedLine, bedLines, entryWith, entriesOf}
+use Rattle.bed.specs.Limits.{maxLine}
+use Rattle.bed.specs.Laws.Bed.{line-length, lines-next, lines-none}
+use Rattle.bed.proofs.lines.write_runs.Statement.{statement}
+use Rattle.bed.proofs.lines.write_runs.Tie as tie
 
 abbrev Inv-loop : tie.InvT-loop
-Inv-loop name runs count out₀ at from₀ left₀ next₀ out from left next =
+Inv-loop name runs count out₀ from₀ left₀ next₀ out from left next =
     (from + 3 * left ≤ length runs)
     × (next + maxLine * left ≤ length out)
     × (length out ≡ length out₀)
-    × Pending out next (bedLines name (entriesOf left (drop from runs))) out₀ at (bedLines name (entriesOf count runs))
+    × Pending out next (bedLines name (entriesOf left (drop from runs))) out₀ 0 (bedLines name (entriesOf count runs))
 
 abbrev μ-loop : tie.MeasureT-loop
-μ-loop name runs count out₀ at from₀ left₀ next₀ out from left next = left
+μ-loop name runs count out₀ from₀ left₀ next₀ out from left next = left
 
 loop-holds : tie.Need-loop-holds Inv-loop μ-loop
 loop-holds c = (omega arith, omega arith, refl, pending-all _ _ _)
@@ -66,7 +66,9 @@ line-fits c =
     (omega (arith, known from)) (omega (arith, known (from + 1))) (omega (arith, known (from + 2)))
 
 write-line-requires : tie.Need-write-line-requires Inv-loop μ-loop
-write-line-requires c κs = omega (arith, line-fits c, c .before .before .before .before .loop-test .taken, c .before .before .before .before .before .loop .inv .1)
+write-line-requires c κs =
+    let test = c .before .before .before .before in
+    omega (arith, line-fits c, test .loop-test .taken, test .before .loop .inv .1)
 
 add-from : tie.Need-add-from Inv-loop μ-loop
 add-from c = search needs
@@ -99,8 +101,8 @@ returns c =
     pending-none (rw (lines-none (args .name .now) (loop .left) (drop (loop .from) (args .runs .now)) (c .loop-test .left)) at (loop .inv .3))
     (omega (arith, loop .inv .1))
 
-pub write-lines-spec : {M : Type 1} → statement M
-write-lines-spec =
+pub write-runs-spec : {M : Type 1} → statement M
+write-runs-spec =
     tie.close
     (tie.spec
     Inv-loop

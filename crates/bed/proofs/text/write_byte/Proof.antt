@@ -1,10 +1,10 @@
--- `listing::text::write_byte` meets its contract: one store.
+-- `bed::text::write_byte` meets its contract: one store.
 -- Assumes nothing.
 use native.Mathlib.Omega.{arith}
 use borrow.Author.Needs.{needs}
 use Rattle.answer.specs.ContentLaws.{written-one}
-use Rattle.listing.proofs.text.write_byte.Statement.{statement}
-use Rattle.listing.proofs.text.write_byte.Tie as tie
+use Rattle.bed.proofs.text.write_byte.Statement.{statement}
+use Rattle.bed.proofs.text.write_byte.Tie as tie
 
 slice-write-out : tie.Need-slice-write-out
 slice-write-out c = search needs

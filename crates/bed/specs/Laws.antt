@@ -1,0 +1,3 @@
+pub mod Decimal
+pub mod Bed
+pub mod Refusal

@@ -1,0 +1,5 @@
+pub mod Limits
+pub mod Decimal
+pub mod Bed
+pub mod Refusal
+pub mod Laws
