@@ -35,21 +35,35 @@ module _ {P : ℕ → Type 0} where
 pub stored : (b : List ℕ) (i v : ℕ) → i < length b → Stored i v b (set b i v)
 stored b i v h = record { here = getD-set-same b i v 0 h; others = kept-set b i v (λ t p. p) }
 
+module _ (l before : List ℕ) (t : ℕ) where
+  -- A place of a buffer into which l was written, inside l.
+  pub written-value : t < length l → getD (written l before) t 0 ≡ getD l t 0
+  written-value q = List·getD-append l (drop (length l) before) 0 t q
+
+  -- A place past it.
+  written-past : length l ≤ t → getD (written l before) t 0 ≡ getD before t 0
+  written-past p =
+      let k : length l + (t - length l) ≡ t = omega arith in
+      ap (λ (j : ℕ). getD (written l before) j 0) (sym k) ∙ getD-append-add l (drop (length l) before) (t - length l) 0 ∙
+      getD-drop (length l) before (t - length l) 0 ∙ ap (λ (j : ℕ). getD before j 0) k
+
+-- Its places past l are as before.
+pub written-kept : (l before : List ℕ) (n : ℕ) → length l ≡ n → n ≤ length before → Kept (From n) before (written l before)
+written-kept l before n e h =
+    record {
+      size = omega (arith, length-append l (drop (length l) before), length-drop (length l) before);
+      kept = λ t p. written-past l before t (omega arith);
+    }
+
 -- A buffer with the entries of a list of n at its first places, and all else as before, is one into which the list was written.
 pub written-places : (l : List ℕ) (n : ℕ) (before after : List ℕ) → length l ≡ n → n ≤ length before → Kept (From n) before after →
     ((t : ℕ) → t < n → getD after t 0 ≡ getD l t 0) → after ≡ written l before
 written-places l n before after e h rest value =
-    ext-getD 0 after (written l before)
-    (omega (arith, rest .size, length-append l (drop (length l) before), length-drop (length l) before)) (λ t q. at t (decLt t n))
+    ext-getD 0 after (written l before) (omega (arith, rest .size, written-kept l before n e h .size)) (λ t q. at t (decLt t n))
   where
     at : (t : ℕ) → Dec (t < n) → getD after t 0 ≡ getD (written l before) t 0
-    at t (yes q) = value t q ∙ sym (List·getD-append l (drop (length l) before) 0 t (omega arith))
-    at t (no q) =
-        let k : length l + (t - length l) ≡ t = omega (arith, e) in
-        rest .kept t (omega arith) ∙
-        sym
-        (ap (λ (j : ℕ). getD (written l before) j 0) (sym k) ∙ getD-append-add l (drop (length l) before) (t - length l) 0 ∙
-        getD-drop (length l) before (t - length l) 0 ∙ ap (λ (j : ℕ). getD before j 0) k)
+    at t (yes q) = value t q ∙ sym (written-value l before t (omega arith))
+    at t (no q) = rest .kept t (omega arith) ∙ sym (written-past l before t (omega arith))
 
 module _ (f : ℕ → ℕ) (before : List ℕ) where
   pub holds-none : Holds f 0 before before

@@ -2,7 +2,6 @@ pub mod Reasons
 pub mod Answers
 pub mod Limits
 pub mod Content
-pub mod Faults
 pub mod AfterCall
 pub mod AfterLaws
 pub mod ContentLaws

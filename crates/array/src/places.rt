@@ -27,8 +27,8 @@ pub(crate) fn remembered(buf: &[u32], j: usize, l: usize) -> usize
     0
 }
 
-// The word of length w is a prefix of the factor of length l at j: how far the two agree, where s, which is remembered of the factor, tells
-// it; else 0.
+// The word of length w before j is a prefix of the factor of length l at j: letters on which the word and what follows it agree with the factor,
+// as s tells, which is remembered of the factor; 0 where s does not tell.
 pub(crate) fn settled(buf: &[u32], j: usize, w: usize, l: usize, s: usize) -> usize
     requires { ⌜ (j + l ≤ length (now buf)) × (l ≤ maxLength) × (s < l) ⌝ }
     ensures result { λ r. ⌜ r ≡ settledAt (now (buf .entry)) j w l s ⌝ }

@@ -9,7 +9,7 @@ ghost use mathlib.Core.Path.{_≡_};
 ghost use mathlib.Core.List.{[], _∷_};
 ghost use Prim.Native.Nat.{_+_, _-_, _*_, _≤_, _<_};
 ghost use lib.ListN.{length};
-ghost use Rattle.answer.specs.Limits.{maxLength};
+ghost use Rattle.answer.specs.Limits.{maxLength, runListLength, workLength};
 ghost use Rattle.answer.specs.Content.{Written};
 ghost use Rattle.array.specs.Core.RunExtent.{StoppedAt, ExtendedTo, LeftExtent, AtRoot};
 ghost use Rattle.array.specs.Core.RunPass.{Listed, VisitReady, Visited, OrderDone, RunsFound};
@@ -111,10 +111,10 @@ fn visit(
     let end = w.end;
     let agreed = w.agreed;
     let part = w.part;
-    let stop = w.stop;
-    let k = extended(text, buf, i, end, agreed, stop);
+    let outcome = w.stop;
+    let k = extended(text, buf, i, end, agreed, outcome);
     places::store_word(buf, i, end, k, part);
-    let Comparison::Above = stop else {
+    let Comparison::Above = outcome else {
         return count;
     };
     list_at(text, order, list, count, i, end, k)
@@ -138,7 +138,7 @@ fn pass(text: &[u8], order: u32, buf: &mut [u32], list: &mut [u32], from: usize)
 
 // Both orders, the runs sorted by start and then by last position; the number of runs.
 fn find(text: &[u8], work: &mut [u32], list: &mut [u32]) -> usize
-    requires { ⌜ (length (now text) ≤ maxLength) × (6 * length (now text) ≤ length (now list)) × (2 * length (now text) ≤ length (now work)) ⌝ }
+    requires { ⌜ (length (now text) ≤ maxLength) × (runListLength (length (now text)) ≤ length (now list)) × (workLength (length (now text)) ≤ length (now work)) ⌝ }
     ensures content { λ r. ⌜ RunsFound (now (text .entry)) (now (work .entry)) (now (work .exit)) (now (list .entry)) (now (list .exit)) r ⌝ }
 {
     let n = text.len();

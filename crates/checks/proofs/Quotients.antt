@@ -1,4 +1,4 @@
--- A check of n places against a quotient is one of a product against the whole.
+-- A check for another that fails alike: a check of n places against a quotient stands for one of a product against the whole.
 -- Assumes nothing.
 use mathlib.Core.Path.{subst}
 use mathlib.Core.Bool.{Bool}

@@ -30,7 +30,7 @@ pub enum Step {
     Off { ending: Ending },
 }
 
-// Where the line ends whose bytes from `from` on are left: past its LF, or the input's end.
+// Where the line ends whose bytes from `from` on are left: past its LF, or the input's end; `from` where nothing is left.
 pub fn after_line(input: &[u8], from: usize) -> usize
     ensures result { λ r. ⌜ r ≡ afterLine from (drop from (now (input .entry))) ⌝ }
 {

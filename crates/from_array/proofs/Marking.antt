@@ -1,6 +1,7 @@
 -- Positions marked from the span that holds them.
 -- Assumes nothing.
 use mathlib.Core.Path.{_≡_, sym, subst, _∙_}
+use mathlib.Core.Logic.{_⊎_, inl, inr}
 use mathlib.Core.List.{List}
 use Prim.Native.Nat.{ℕ, _+_, _<_, _≤_}
 use native.Mathlib.Omega.{arith}
@@ -8,7 +9,7 @@ use native.Mathlib.Decide.{decLt}
 use lib.ListN.{length, getD, set}
 use Rattle.words.specs.ValidArray.{Valid}
 use Rattle.words.specs.ArrayForest.{endOf}
-use Rattle.words.specs.Laws.ValidSpans.{Innermost, end-after, end-inside, ends-nest}
+use Rattle.words.specs.Laws.ValidSpans.{Innermost, innermost-next, end-after, end-inside, ends-nest}
 use Rattle.answer.specs.Content.{Kept, Stored}
 use Rattle.answer.specs.ContentLaws.{kept-all, kept-then, kept-where, stored}
 use Rattle.from_array.specs.Marked.{Marked}
@@ -48,7 +49,7 @@ module _ (a : List ℕ) (valid : Valid a) (i v : ℕ) (h : i < length a) (before
         after = omega (arith, w .after, marking-rises k l);
         reached = ends-nest a valid i k n (w .after) l;
         closed = λ m p q. inside m p q (decLt m k) (decLt k m);
-        inner = λ j p m. at s j p m (decLt j k) (decLt k j);
+        inner = λ j p m. at s j m (innermost-next a i j k (w .after) p m);
         others = kept-then (kept-where (w .others) (λ j m n. omega (arith, m n, marking-rises k l))) (kept-where (s .others) not-here);
       }
     where
@@ -63,12 +64,9 @@ module _ (a : List ℕ) (valid : Valid a) (i v : ℕ) (h : i < length a) (before
       marked : Innermost a k k i
       marked = record { below = w .after; holds = l; last = w .closed }
 
-      at : Stored k v now (set now k v) → (j : ℕ) → j < endOf a k → Innermost a j j i → Dec (j < k) → Dec (k < j) → getD (set now k v) j 0 ≡ v
-      at s j p m (yes r) t = s .others .kept j (λ z. omega arith) ∙ w .inner j r m
-      at s j p m (no r) (yes t) = absurd (omega (arith, m .last k (w .after) t, p))
-      at s j p m (no r) (no t) =
-          let e : k ≡ j = omega (arith, r, t) in
-          subst (λ (z : ℕ). getD (set now k v) z 0 ≡ v) e (s .here)
+      at : Stored k v now (set now k v) → (j : ℕ) → Innermost a j j i → (j < k) ⊎ (k ≡ j) → getD (set now k v) j 0 ≡ v
+      at s j m (inl r) = s .others .kept j (λ z. omega arith) ∙ w .inner j r m
+      at s j m (inr e) = subst (λ (z : ℕ). getD (set now k v) z 0 ≡ v) e (s .here)
 
       not-here : (j : ℕ) → (Innermost a j j i → endOf a k ≤ j) → ¬ (j ≡ k)
       not-here j m e = omega (arith, m (subst (λ (z : ℕ). Innermost a z z i) (sym e) marked), marking-rises k l)

@@ -3,12 +3,10 @@
 use mathlib.Core.Path.{_≡_}
 use mathlib.Core.List.{List}
 use Prim.Native.Nat.{ℕ}
-use Rattle.words.specs.Compute.Factorization.{factorizationOf}
-use Rattle.words.specs.Compute.LeftForest.{leftFirstOf, leftPastOf}
 use Rattle.answer.specs.AfterCall.{written}
-use Rattle.factors.specs.Default.{decided-default}
+use Rattle.left_forest.specs.Answers.{leftFirst, leftPast}
 
 -- The left forest of x is written.
 pub record Grown (x first first′ past past′ : List ℕ) : Type 0 where
-  pub in-first : first′ ≡ written (leftFirstOf decided-default x (factorizationOf decided-default x)) first
-  pub in-past : past′ ≡ written (leftPastOf decided-default x (factorizationOf decided-default x)) past
+  pub in-first : first′ ≡ written (leftFirst x) first
+  pub in-past : past′ ≡ written (leftPast x) past

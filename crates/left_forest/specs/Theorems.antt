@@ -6,23 +6,14 @@ use mathlib.Core.List.{List}
 use Prim.Native.Nat.{ℕ, _≤_}
 use lib.ListN.{length, take, drop}
 use Rattle.words.specs.LeftForest.{IsLeftForest}
-use Rattle.words.specs.Compute.Factorization.{factorizationOf, factorizationOf-holds}
-use Rattle.words.specs.Compute.LeftForest.{leftFirstOf, leftPastOf}
+use Rattle.words.specs.Compute.Factorization.{factorizationOf-holds}
 use Rattle.words.specs.Laws.ForestRecords.{leftForestOf-holds}
 use Rattle.answer.specs.Answers.{acceptedWith}
 use Rattle.answer.specs.AfterCall.{contentAfter}
 use Rattle.answer.specs.AcceptedContent.{Sized, written-first, written-rest}
 use Rattle.checks.specs.CheckLaws.{forest-passes}
 use Rattle.factors.specs.Default.{defaultOrder, decided-default}
-use Rattle.left_forest.specs.Answers.{leftForestAnswer}
-
--- FIRST of the left forest.
-abbrev pub leftFirst : List ℕ → List ℕ
-leftFirst x = leftFirstOf decided-default x (factorizationOf decided-default x)
-
--- PAST of the left forest.
-abbrev pub leftPast : List ℕ → List ℕ
-leftPast x = leftPastOf decided-default x (factorizationOf decided-default x)
+use Rattle.left_forest.specs.Answers.{leftFirst, leftPast, leftForestAnswer}
 
 -- What `left_forest` leaves in its first buffer, by its contract.
 abbrev pub leftFirstAfter : List ℕ → List ℕ → List ℕ → List ℕ

@@ -1,7 +1,7 @@
 // The left forest of a byte text in the default order, a public call with no `requires`: crate `factors`
 // writes the Lyndon suffix table, and two passes make the forest of it.
 //
-// Contracts cite `specs/Answers.antt`, the default order of `factors` and the definitions of `words`. Nothing is assumed.
+// Contracts cite `specs/Answers.antt`. Nothing is assumed.
 use answer::Answer;
 use checks::Check;
 use factors::suffix_table::suffix_table;
@@ -9,13 +9,10 @@ use letters::wide;
 ghost use mathlib.Core.Path.{_≡_};
 ghost use Prim.Native.Nat.{ℕ, _<_};
 ghost use lib.ListN.{length};
-ghost use Rattle.words.specs.Compute.Factorization.{factorizationOf};
-ghost use Rattle.words.specs.Compute.LeftForest.{leftFirstOf, leftPastOf};
 ghost use Rattle.answer.specs.AfterCall.{contentAfter};
-ghost use Rattle.factors.specs.Default.{decided-default};
 ghost use Rattle.answer.specs.Content.{TextRoom};
 ghost use Rattle.left_forest.specs.Results.{Grown};
-ghost use Rattle.left_forest.specs.Answers.{leftForestAnswer};
+ghost use Rattle.left_forest.specs.Answers.{leftFirst, leftPast, leftForestAnswer};
 ghost use Rattle.left_forest.specs.Links.{Descends, Linked, Closes, Linkable, Crossed, OwnRoots};
 
 // The word that ends at `e` starts at `last`: from `e` down the links of FIRST, each position above
@@ -82,8 +79,8 @@ fn grow(text: &[u8], first: &mut [u32], past: &mut [u32])
 // Writes the left forest of `text` into `first` and `past`; the count is the number of letters.
 pub fn left_forest(text: &[u8], first: &mut [u32], past: &mut [u32]) -> Answer
     ensures answer { λ r. ⌜ r ≡ leftForestAnswer (now (text .entry)) (length (now (first .entry))) (length (now (past .entry))) ⌝ }
-    ensures starts { λ r. ⌜ now (first .exit) ≡ contentAfter r (leftFirstOf decided-default (now (text .entry)) (factorizationOf decided-default (now (text .entry)))) (now (first .entry)) ⌝ }
-    ensures ends { λ r. ⌜ now (past .exit) ≡ contentAfter r (leftPastOf decided-default (now (text .entry)) (factorizationOf decided-default (now (text .entry)))) (now (past .entry)) ⌝ }
+    ensures starts { λ r. ⌜ now (first .exit) ≡ contentAfter r (leftFirst (now (text .entry))) (now (first .entry)) ⌝ }
+    ensures ends { λ r. ⌜ now (past .exit) ≡ contentAfter r (leftPast (now (text .entry))) (now (past .entry)) ⌝ }
 {
     let n = text.len();
     let c = checks::forest(n, first.len(), past.len());

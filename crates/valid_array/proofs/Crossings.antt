@@ -1,6 +1,7 @@
 -- Why the walks from each position find the least crossing: it is met from its innermost earlier span.
 -- Assumes nothing.
 use mathlib.Core.Path.{_≡_, sym, subst}
+use mathlib.Core.Logic.{⊎-elim}
 use mathlib.Core.List.{List}
 use Prim.Native.Nat.{ℕ, zero, suc, _+_, _<_, _≤_}
 use native.Mathlib.Omega.{arith}
@@ -8,7 +9,7 @@ use native.Mathlib.Decide.{decLt}
 use lib.ListN.{length}
 use Rattle.words.specs.ValidArray.{Crosses}
 use Rattle.words.specs.ArrayForest.{endOf}
-use Rattle.words.specs.Laws.ValidSpans.{Innermost, InnermostCase, held, unheld, innermost-case}
+use Rattle.words.specs.Laws.ValidSpans.{Innermost, innermost-next, InnermostCase, held, unheld, innermost-case}
 use Rattle.valid_array.specs.Checked.{EntriesInRange, CrossingFrom, LeastCrossing}
 
 -- The walk from i has come to k: no span below k whose innermost one is that of i crosses its end.
@@ -35,15 +36,10 @@ module _ (a : List ℕ) (r : EntriesInRange a) (i : ℕ) (h : i < length a) wher
       record {
         after = omega (arith, w .after);
         reached = n;
-        passed = λ j p m. at j p m (decLt j k) (decLt k j);
+        passed =
+            λ j p m.
+            ⊎-elim (λ q. w .passed j q m) (λ e. subst (λ (z : ℕ). endOf a z ≤ endOf a i) e n) (innermost-next a i j k (w .after) p m);
       }
-    where
-      at : (j : ℕ) → j < endOf a k → Innermost a j j i → Dec (j < k) → Dec (k < j) → endOf a j ≤ endOf a i
-      at j p m (yes q) s = w .passed j q m
-      at j p m (no q) (yes s) = absurd (omega (arith, m .last k (w .after) s, p))
-      at j p m (no q) (no s) =
-          let e : k ≡ j = omega (arith, q, s) in
-          subst (λ (z : ℕ). endOf a z ≤ endOf a i) e n
 
   pub walk-rises : (k : ℕ) → k < endOf a i → k < endOf a k
   walk-rises k l = omega (arith, r .at k (walk-inside k l) .positive)

@@ -6,7 +6,7 @@ use lib.ListN.{length}
 use Rattle.words.specs.Compute.ValidArray.{Verdict, fits, fault, checkArray}
 use Rattle.answer.specs.declared.Answer.{Answer}
 use Rattle.answer.specs.Answers.{acceptedWith, refusedFor}
-use Rattle.answer.specs.Faults.{reasonFor}
+use Rattle.valid_array.specs.Faults.{reasonFor}
 use Rattle.answer.specs.Limits.{maxLength}
 use Rattle.checks.specs.Checks.{lengthChecked}
 

@@ -1,4 +1,4 @@
-// The check of an array alone, a public call with no `requires`: whether some text has it.
+// The check of an array alone, a public call with no `requires`: whether some text within the limits of length has it.
 //
 // Contracts cite `specs/Answers.antt`. What a verdict says of texts over any ordered letters stands in `words`, file `ArrayTheorems`.
 // Nothing is assumed.
@@ -11,7 +11,7 @@ use checks::Check;
 ghost use mathlib.Core.Path.{_≡_};
 ghost use Rattle.valid_array.specs.Answers.{checkAnswer};
 
-// Document 01's checks 1, 2, 6, 7 and 8: accepted, with the number of entries, where the array is valid.
+// Document 01's checks 1, 2, 6, 7 and 8: accepted, with the number of entries, where there are 1 to 1,048,576 and the array is valid.
 pub fn check(array: &[u32]) -> Answer
     ensures answer { λ r. ⌜ r ≡ checkAnswer (now (array .entry)) ⌝ }
 {

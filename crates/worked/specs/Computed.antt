@@ -22,7 +22,7 @@ use Rattle.words.specs.Compute.ValidArray.{fits, fault, HasVerdict, checkArray,
 use Rattle.words.specs.ArrayForest.{forestFirst, forestPast}
 use Rattle.words.specs.ArrayTheorems.{TextWith, passed-exactly}
 use Rattle.answer.specs.declared.Answer.{Answer}
-use Rattle.answer.specs.Faults.{reasonFor}
+use Rattle.valid_array.specs.Faults.{reasonFor}
 use Rattle.answer.specs.Answers.{refusedFor, number, value}
 use Rattle.answer.specs.AfterCall.{contentAfter}
 use Rattle.answer.specs.AfterLaws.{content-refused}

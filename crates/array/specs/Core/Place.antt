@@ -11,8 +11,8 @@ use Rattle.answer.specs.Limits.{maxLength}
 abbrev pub rememberedAt : List ℕ → ℕ → ℕ → ℕ
 rememberedAt buf j l = cond (ltb 1 l) (getD buf (j + l - 1) 0) 0
 
--- The word of length w is a prefix of the factor of length l at j: how far the two agree, where s, which is remembered of the factor, tells it;
--- 0 where it does not, or where the word is no shorter than the factor.
+-- The word of length w before j is a prefix of the factor of length l at j: letters on which the word and what follows it agree with the factor,
+-- as s tells, which is remembered of the factor; 0 where s does not tell, or where the word is no shorter than the factor.
 abbrev pub settledAt : List ℕ → ℕ → ℕ → ℕ → ℕ → ℕ
 settledAt buf j w l s =
     cond (ltb w l) (cond (ltb s w) w (cond (eqb (w + getD buf (j + w) 0) l) (w + s) 0)) 0

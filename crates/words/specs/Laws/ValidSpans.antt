@@ -2,6 +2,7 @@
 -- Assumes nothing.
 use mathlib.Core.Path.{_≡_, refl, subst}
 use mathlib.Core.Bool.{Bool, true, false}
+use mathlib.Core.Logic.{_⊎_, inl, inr}
 use mathlib.Core.List.{List}
 use Prim.Native.Nat.{ℕ, zero, suc, _<_, _≤_}
 use native.Mathlib.Omega.{arith}
@@ -17,6 +18,15 @@ pub record Innermost (a : List ℕ) (j k i : ℕ) : Type 0 where
   pub below : i < k
   pub holds : j < endOf a i
   pub last : (m : ℕ) → i < m → m < k → endOf a m ≤ j
+
+-- A position inside the span at k whose innermost span is that of an earlier i comes before k, or is k.
+pub innermost-next : (a : List ℕ) (i j k : ℕ) → i < k → j < endOf a k → Innermost a j j i → (j < k) ⊎ (k ≡ j)
+innermost-next a i j k h p m = go (decLt j k) (decLt k j)
+  where
+    go : Dec (j < k) → Dec (k < j) → (j < k) ⊎ (k ≡ j)
+    go (yes q) s = inl q
+    go (no q) (yes s) = absurd (omega (arith, m .last k h s, p))
+    go (no q) (no s) = inr (omega (arith, q, s))
 
 -- No span that starts below k holds j.
 abbrev pub Unheld : List ℕ → ℕ → ℕ → Type 0
