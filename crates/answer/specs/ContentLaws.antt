@@ -12,7 +12,8 @@ use lib.Seq.{ext-getD, getD-set-same, getD-set-other, getD-append-add, getD-drop
 use Rattle.words.specs.Tabulate.{tabulate}
 use Rattle.words.specs.Laws.Tabulate.{length-tabulate, getD-tabulate}
 use Rattle.answer.specs.AfterCall.{written}
-use Rattle.answer.specs.Content.{Kept, From, Stored, Holds, Written, Pending}
+use Rattle.answer.specs.Limits.{Sized}
+use Rattle.answer.specs.Content.{Kept, From, Stored, Holds, Written, Pending, TextRoom}
 
 module _ {P : ℕ → Type 0} where
   -- Nothing is written.
@@ -170,3 +171,7 @@ pending-rest p v = record { completed = λ a next w. p .completed a next (writte
 -- Where nothing is pending, all is written.
 pub pending-none : {b b₀ : List ℕ} {at at₀ : ℕ} {l₀ : List ℕ} → Pending b at [] b₀ at₀ l₀ → at ≤ length b → Written b₀ b at₀ at l₀
 pending-none {b} {at = at} p h = p .completed b at (written-none b at h)
+
+-- A text within the limits, and a buffer that is long enough.
+pub sized-room : {text out : List ℕ} → Sized (length text) → length text ≤ length out → TextRoom text out
+sized-room sized h = record { short = sized .short; places = h }

@@ -5,4 +5,3 @@ pub mod Content
 pub mod AfterCall
 pub mod AfterLaws
 pub mod ContentLaws
-pub mod AcceptedContent

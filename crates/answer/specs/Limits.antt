@@ -1,10 +1,15 @@
 -- The limits of document 01.
 -- Assumes nothing.
-use Prim.Native.Nat.{ℕ, _*_}
+use Prim.Native.Nat.{ℕ, _*_, _≤_}
 
 -- A text has 1 to so many letters ("The words used").
 abbrev pub maxLength : ℕ
 maxLength = 1048576
+
+-- A text, or an array, of 1 to 1,048,576 letters, or entries.
+pub record Sized (n : ℕ) : Type 0 where
+  pub some : 1 ≤ n
+  pub short : n ≤ maxLength
 
 -- The reader hands on at most so many letters, and needs a buffer of that length (refusals 4 and 14).
 abbrev pub maxLetters : ℕ

@@ -9,9 +9,10 @@ use Rattle.checks.specs.declared.Check.the-variants.{Passed}
 use Rattle.checks.specs.Checks.{orderedTextChecked, Adds}
 use Rattle.checks.specs.CheckLaws.{ordered-text-passed}
 use Rattle.answer.specs.Content.{TextRoom}
+use Rattle.answer.specs.ContentLaws.{sized-room}
 
 pub array-fits :
     (x buf : List ℕ) (order : ℕ) (c : Check) → Adds Passed c (orderedTextChecked (length x) order (length buf)) → c ≡ Passed → TextRoom x buf
 array-fits x buf order c checked e =
     let known = ordered-text-passed (length x) order (length buf) checked e in
-    record { short = known .0 .short; places = known .2 }
+    sized-room (known .0) (known .2)

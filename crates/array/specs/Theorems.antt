@@ -16,9 +16,9 @@ use Rattle.words.specs.Compute.LyndonArray.{arrayOf, arrayOf-holds}
 use Rattle.words.specs.Laws.RunSearch.{runsOf-holds}
 use Rattle.words.specs.Laws.Runs.{numbers-length}
 use Rattle.answer.specs.Answers.{acceptedWith}
-use Rattle.answer.specs.Limits.{runListLength, workLength}
+use Rattle.answer.specs.Limits.{runListLength, workLength, Sized}
 use Rattle.answer.specs.AfterCall.{contentAfter}
-use Rattle.answer.specs.AcceptedContent.{Sized, written-first, written-rest}
+use Rattle.answer.specs.AfterLaws.{written-first, written-rest}
 use Rattle.checks.specs.CheckLaws.{ordered-text-passes, runs-passes}
 use Rattle.array.specs.Calls.{arrayAnswer, runList, runNumbers, bothArrays, runsAnswer}
 

@@ -14,8 +14,7 @@ use Rattle.answer.specs.declared.Reason.the-variants.{EmptyText, TextTooLong, U
 use Rattle.checks.specs.declared.Check.{Check}
 use Rattle.checks.specs.declared.Check.the-variants.{Passed, Failed}
 use Rattle.answer.specs.Answers.{acceptedWith, refusedFor, refusedIf, accepted-apart}
-use Rattle.answer.specs.AcceptedContent.{Sized}
-use Rattle.answer.specs.Limits.{maxLength, maxLetters, maxInput, runListLength, workLength}
+use Rattle.answer.specs.Limits.{Sized, maxLength, maxLetters, maxInput, runListLength, workLength}
 use Rattle.checks.specs.Checks.{limitChecked, lengthChecked, orderChecked, outputChecked, workChecked, inputChecked, textChecked, orderedTextChecked, forestChecked, runsChecked, readerChecked, answerTo, Adds}
 
 -- A check, and then another.

@@ -11,7 +11,8 @@ use Rattle.words.specs.Compute.Factorization.{factorizationOf, factorizationOf-
 use Rattle.words.specs.Compute.SuffixTable.{suffixTableOf, suffixTableOf-holds}
 use Rattle.answer.specs.Answers.{acceptedWith}
 use Rattle.answer.specs.AfterCall.{contentAfter}
-use Rattle.answer.specs.AcceptedContent.{Sized, written-first, written-rest}
+use Rattle.answer.specs.Limits.{Sized}
+use Rattle.answer.specs.AfterLaws.{written-first, written-rest}
 use Rattle.checks.specs.CheckLaws.{text-passes}
 use Rattle.factors.specs.Default.{defaultOrder, decided-default}
 use Rattle.factors.specs.Answers.{factorizationAnswer, suffixTableAnswer}

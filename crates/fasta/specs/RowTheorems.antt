@@ -11,7 +11,7 @@ use Rattle.words.specs.ExactlyOne.{ExactlyOne}
 use Rattle.answer.specs.declared.Answer.{Answer}
 use Rattle.answer.specs.declared.Reason.{Reason}
 use Rattle.answer.specs.Answers.{acceptedWith, refusedFor}
-use Rattle.answer.specs.AcceptedContent.{written-first, written-rest}
+use Rattle.answer.specs.AfterLaws.{written-first, written-rest}
 use Rattle.fasta_record.specs.Bytes.{letterOf}
 use Rattle.fasta_record.specs.Record.{linesStart, nameEnd}
 use Rattle.fasta.specs.Reader.{readerAnswer, lettersOf, lettersAfter}

@@ -9,7 +9,7 @@ use Rattle.words.specs.Compute.ValidArray.{Verdict, fits, fault, HasVerdict, ch
 use Rattle.answer.specs.declared.Answer.{Answer}
 use Rattle.answer.specs.declared.Outcome.the-variants.{Accepted}
 use Rattle.answer.specs.Answers.{acceptedWith, accepted-apart}
-use Rattle.answer.specs.AcceptedContent.{Sized}
+use Rattle.answer.specs.Limits.{Sized}
 use Rattle.checks.specs.CheckLaws.{array-passes}
 use Rattle.valid_array.specs.Answers.{verdictAnswer, arrayChecked, checkAnswer}
 

@@ -20,7 +20,8 @@ use Rattle.words.specs.ArrayTheorems.{TextWith, Faulty, valid-exactly, passed-e
 use Rattle.answer.specs.declared.Answer.{Answer}
 use Rattle.answer.specs.Answers.{acceptedWith, number}
 use Rattle.answer.specs.AfterCall.{contentAfter}
-use Rattle.answer.specs.AcceptedContent.{Sized, written-first, written-rest}
+use Rattle.answer.specs.Limits.{Sized}
+use Rattle.answer.specs.AfterLaws.{written-first, written-rest}
 use Rattle.checks.specs.CheckLaws.{text-passes, forest-passes}
 use Rattle.valid_array.specs.Answers.{verdictAnswer, arrayChecked}
 use Rattle.from_array.specs.Answers.{reconstructAnswer, rightForestAnswer}

@@ -9,7 +9,7 @@ use Rattle.words.specs.SuffixTable.{IsSuffixTable, LongestTo}
 use Rattle.words.specs.Compute.SuffixTable.{suffixTableOf, suffixTableOf-holds}
 use Rattle.answer.specs.declared.Answer.{Answer}
 use Rattle.answer.specs.AfterCall.{contentAfter}
-use Rattle.answer.specs.AcceptedContent.{Sized}
+use Rattle.answer.specs.Limits.{Sized}
 use Rattle.answer.specs.Content.{TextRoom}
 use Rattle.answer.specs.ContentLaws.{written-value, written-kept}
 use Rattle.factors.specs.Default.{defaultOrder, decided-default}

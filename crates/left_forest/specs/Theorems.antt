@@ -10,7 +10,8 @@ use Rattle.words.specs.Compute.Factorization.{factorizationOf-holds}
 use Rattle.words.specs.Laws.ForestRecords.{leftForestOf-holds}
 use Rattle.answer.specs.Answers.{acceptedWith}
 use Rattle.answer.specs.AfterCall.{contentAfter}
-use Rattle.answer.specs.AcceptedContent.{Sized, written-first, written-rest}
+use Rattle.answer.specs.Limits.{Sized}
+use Rattle.answer.specs.AfterLaws.{written-first, written-rest}
 use Rattle.checks.specs.CheckLaws.{forest-passes}
 use Rattle.factors.specs.Default.{defaultOrder, decided-default}
 use Rattle.left_forest.specs.Answers.{leftFirst, leftPast, leftForestAnswer}

@@ -26,7 +26,7 @@ use Rattle.valid_array.specs.Faults.{reasonFor}
 use Rattle.answer.specs.Answers.{refusedFor, number, value}
 use Rattle.answer.specs.AfterCall.{contentAfter}
 use Rattle.answer.specs.AfterLaws.{content-refused}
-use Rattle.answer.specs.AcceptedContent.{Sized}
+use Rattle.answer.specs.Limits.{Sized}
 use Rattle.valid_array.specs.Answers.{verdictAnswer, arrayChecked}
 use Rattle.from_array.specs.Theorems.{reconstruct-checked, reconstruct-accepts-exactly, written-text, right-forest-checked}
 use Rattle.worked.specs.Example.{Example, array, factors, suffix-table, right-forest, left-forest, text, refused, Says, ExampleHolds, AllHold}

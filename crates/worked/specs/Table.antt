@@ -6,8 +6,7 @@ use Prim.Native.Nat.{ℕ}
 use lib.ListN.{drop}
 use lib.Dec.{T, leb, lit≤}
 use Rattle.words.specs.ValidArray.{crossing}
-use Rattle.answer.specs.Limits.{maxLength}
-use Rattle.answer.specs.AcceptedContent.{Sized}
+use Rattle.answer.specs.Limits.{maxLength, Sized}
 use Rattle.worked.specs.Example.{Example, array, factors, suffix-table, right-forest, left-forest, text, refused, AllHold}
 use Rattle.worked.specs.Computed.{AllComputed, all-computed-hold}
 

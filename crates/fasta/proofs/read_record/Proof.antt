@@ -5,7 +5,8 @@ use Prim.Native.Nat.{ℕ}
 use native.Mathlib.Omega.{arith}
 use lib.ListN.{length, drop}
 use Rattle.answer.specs.declared.Outcome.{Outcome}
-use Rattle.answer.specs.AfterCall.{written, contentIn}
+use Rattle.answer.specs.AfterCall.{written}
+use Rattle.answer.specs.AfterLaws.{outcome-refused, outcome-accepted}
 use Rattle.fasta.specs.Letters.{lettersIn}
 use Rattle.fasta_record.specs.Record.{recordEnding}
 use Rattle.fasta.specs.Reader.{answerFor, endingPosition, lettersOf, nameEndIn}
@@ -43,7 +44,7 @@ returns c =
     let x = args .input .now in
     let told = c .enum-told2 .given .1 in (
       answered (c .before .before),
-      (sym (ap (λ (o : Outcome). contentIn o (lettersOf x) (args .letters .now)) told), sym (ap (λ (o : Outcome). nameEndIn o x) told)),
+      (outcome-refused _ _ _ told (lettersOf x) (args .letters .now), sym (ap (λ (o : Outcome). nameEndIn o x) told)),
     )
 
 after-line-requires : tie.Need-after-line-requires
@@ -69,9 +70,9 @@ returns-2 c =
     let told = accepted .enum-told .given .1 in (
       answered (accepted .before .before),
       (
-        c .before .before .write-letters .ensures
-            ∙ (ap (λ (q : ℕ). written (lettersIn (drop q x)) b) (c .before .before .before .before .after-line .ensures)
-            ∙ sym (ap (λ (o : Outcome). contentIn o (lettersOf x) b) told)),
+        outcome-accepted _ _ told (lettersOf x) b _
+            (c .before .before .write-letters .ensures
+            ∙ ap (λ (q : ℕ). written (lettersIn (drop q x)) b) (c .before .before .before .before .after-line .ensures)),
         accepted .before .before .before .record-ending .ensures .1 ∙ sym (ap (λ (o : Outcome). nameEndIn o x) told),
       ),
     )

@@ -8,6 +8,7 @@ use borrow.Author.Needs.{needs}
 use Rattle.answer.specs.AfterLaws.{content-refused, content-accepted}
 use Rattle.checks.specs.CheckLaws.{passing, failing, forest-passed}
 use Rattle.answer.specs.Content.{TextRoom}
+use Rattle.answer.specs.ContentLaws.{sized-room}
 use Rattle.left_forest.proofs.left_forest.Statement.{statement}
 use Rattle.left_forest.proofs.left_forest.Tie as tie
 
@@ -22,7 +23,7 @@ room c =
     let args = start c .args in
     let n = length (args .text .now) in
     let known = forest-passed n (length (args .first .now)) (length (args .past .now)) (c .before .before .forest .ensures) (c .enum-told .given .1) in
-    (known .0 .some, record { short = known .0 .short; places = known .1 }, record { short = known .0 .short; places = known .2 })
+    (known .0 .some, sized-room (known .0) (known .1), sized-room (known .0) (known .2))
 
 forest-requires : tie.Need-forest-requires
 forest-requires c κs = search needs

@@ -7,6 +7,7 @@ use Rattle.answer.specs.Answers.{acceptedWith}
 use Rattle.answer.specs.AfterLaws.{content-refused, content-accepted}
 use Rattle.checks.specs.CheckLaws.{passing, failing, text-passed}
 use Rattle.answer.specs.Content.{TextRoom}
+use Rattle.answer.specs.ContentLaws.{sized-room}
 use Rattle.factors.proofs.factorization.factorization.Statement.{statement}
 use Rattle.factors.proofs.factorization.factorization.Tie as tie
 
@@ -18,7 +19,7 @@ room : (c : tie.After-enum-told) → TextRoom (start c .args .text .now) (start 
 room c =
     let args = start c .args in
     let known = text-passed (length (args .text .now)) (length (args .out .now)) (c .before .before .text .ensures) (c .enum-told .given .1) in
-    record { short = known .0 .short; places = known .1 }
+    sized-room (known .0) (known .1)
 
 text-requires : tie.Need-text-requires
 text-requires c κs = search needs

@@ -8,8 +8,8 @@ use lib.ListN.{length}
 use borrow.Author.Needs.{needs}
 use Rattle.words.specs.ArrayForest.{firstFor, pastFor, forestFirst, forestPast}
 use Rattle.answer.specs.Answers.{acceptedWith}
-use Rattle.answer.specs.AcceptedContent.{Sized}
-use Rattle.answer.specs.AfterLaws.{content-refused, content-told, content-accepted}
+use Rattle.answer.specs.Limits.{Sized}
+use Rattle.answer.specs.AfterLaws.{content-refused, outcome-refused, content-accepted}
 use Rattle.checks.specs.CheckLaws.{passing, failing, forest-passed}
 use Rattle.valid_array.specs.Answers.{arrayChecked}
 use Rattle.from_array.specs.Answers.{rightForestAnswer}
@@ -87,8 +87,8 @@ returns c =
     let e = k .before in (
       verdict k ∙ sym (checked e),
       (
-        content-told _ _ _ (c .enum-told2 .given .1) (forestFirst (a e)) (first e),
-        content-told _ _ _ (c .enum-told2 .given .1) (forestPast (a e)) (past e),
+        outcome-refused _ _ _ (c .enum-told2 .given .1) (forestFirst (a e)) (first e),
+        outcome-refused _ _ _ (c .enum-told2 .given .1) (forestPast (a e)) (past e),
       ),
     )
 

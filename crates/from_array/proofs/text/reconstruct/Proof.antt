@@ -7,8 +7,8 @@ use lib.ListN.{length}
 use borrow.Author.Needs.{needs}
 use Rattle.words.specs.ValidArray.{letterFor, textFor}
 use Rattle.answer.specs.Answers.{acceptedWith}
-use Rattle.answer.specs.AcceptedContent.{Sized}
-use Rattle.answer.specs.AfterLaws.{content-refused, content-told, content-accepted}
+use Rattle.answer.specs.Limits.{Sized}
+use Rattle.answer.specs.AfterLaws.{content-refused, outcome-refused, content-accepted}
 use Rattle.checks.specs.CheckLaws.{passing, failing, text-passed}
 use Rattle.valid_array.specs.Answers.{arrayChecked}
 use Rattle.from_array.specs.Answers.{reconstructAnswer}
@@ -71,7 +71,7 @@ enum-told-2 c = search needs
 returns : tie.Need-returns
 returns c =
     let k = c .before .before in
-    (verdict k ∙ sym (checked (k .before)), content-told _ _ _ (c .enum-told2 .given .1) (textFor (a (k .before))) (text (k .before)))
+    (verdict k ∙ sym (checked (k .before)), outcome-refused _ _ _ (c .enum-told2 .given .1) (textFor (a (k .before))) (text (k .before)))
 
 write-letters-requires : tie.Need-write-letters-requires
 write-letters-requires c κs =
