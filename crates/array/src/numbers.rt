@@ -14,7 +14,7 @@ ghost use Rattle.words.specs.Decided.{decided-order};
 ghost use Rattle.words.specs.Compute.LyndonArray.{arrayOf};
 
 // Joins to the letter at i the factors after it, as long as the word so far is smaller than the next factor.
-pub(crate) fn join(text: &[u32], order: u32, buf: &mut [u32], i: usize) -> Joined
+fn join(text: &[u32], order: u32, buf: &mut [u32], i: usize) -> Joined
     requires { ⌜ JoinReady order (now text) (now buf) i ⌝ }
     ensures content { λ r. ⌜ JoinedTo order (now (text .entry)) (now (buf .entry)) (now (buf .exit)) i r ⌝ }
 {

@@ -17,12 +17,12 @@ use fasta_record::name::MAX_NAME;
 const MAX_DIGITS: usize = 10;
 
 // The most bytes of a BED line: the name, three tabs, `p`, LF and three numbers.
-const MAX_LINE: usize = MAX_NAME + 5 + 3 * MAX_DIGITS;
+pub const MAX_LINE: usize = MAX_NAME + 5 + 3 * MAX_DIGITS;
 
 // The most bytes of the line of a refusal: `refused `, ` at `, LF and two numbers.
 const MAX_REFUSAL: usize = 13 + 2 * MAX_DIGITS;
 
-// Writes the lines of the first `count` runs of the list `runs`, or nothing where the name has over 60 bytes, the list fewer runs, or `out` fewer
+// Writes the lines of the first `count` runs of the list `runs`, or nothing (0 bytes) where the name has over 60 bytes, the list fewer runs, or `out` fewer
 // places than the longest lines take. The count is compared with quotients, so that no product of it can wrap.
 pub fn write_lines(name: &[u8], runs: &[u32], count: usize, out: &mut [u8]) -> usize
     ensures content { λ r. ⌜ Written (now (out .entry)) (now (out .exit)) 0 r (linesFitting (now (name .entry)) (now (runs .entry)) count (length (now (out .entry)))) ⌝ }
@@ -39,7 +39,7 @@ pub fn write_lines(name: &[u8], runs: &[u32], count: usize, out: &mut [u8]) -> u
     write_runs(name, runs, count, out)
 }
 
-// Writes the line of a refusal, with its number and position, or nothing where `out` has fewer places than the longest such line takes.
+// Writes the line of a refusal, with its number and position, or nothing (0 bytes) where `out` has fewer places than the longest such line takes.
 pub fn write_refusal(number: u32, position: u32, out: &mut [u8]) -> usize
     ensures content { λ r. ⌜ Written (now (out .entry)) (now (out .exit)) 0 r (refusalFitting number position (length (now (out .entry)))) ⌝ }
 {

@@ -1,5 +1,4 @@
-// Letters of both widths: how two of them compare in an order, and numbers of the buffers as positions. A text of bytes and a text of
-// 32-bit numbers are compared by the same functions.
+// Letters of both widths: how two of them compare in an order, bytes as 32-bit numbers, and numbers of the buffers as positions.
 //
 // Contracts cite `specs/Compared.antt` and the orders of `words`. Nothing is assumed.
 ghost use mathlib.Core.Path.{_≡_};

@@ -14,18 +14,22 @@ use answer::Outcome;
 use answer::number;
 use answer::value;
 use array::runs::runs;
+use bed::MAX_LINE;
 use bed::write_lines;
 use bed::write_refusal;
-
-// The most bytes that are printed for an input.
-pub const MAX_LISTING: usize = 389_120;
+use checks::limits::LIST_PLACES;
+use checks::limits::MAX_LETTERS;
+use checks::limits::WORK_PLACES;
 
 // The lengths of the buffers for the reader's letters, for the run call's work and for its list.
-const LETTERS: usize = 2_048;
+const LETTERS: usize = MAX_LETTERS;
 
-const WORK: usize = 2 * LETTERS;
+const WORK: usize = WORK_PLACES * LETTERS;
 
-const RUNS: usize = 6 * LETTERS;
+const RUNS: usize = LIST_PLACES * LETTERS;
+
+// The most bytes that are printed for an input: a line for each run that the list can hold.
+pub const MAX_LISTING: usize = MAX_LINE * (RUNS / 3);
 
 // Seeks the runs of the letters of a record, and writes their lines under its name at the start of `out`.
 fn write_record(

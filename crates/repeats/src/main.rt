@@ -5,14 +5,16 @@ ghost use Prim.Native.Nat.{_<_};
 ghost use lib.ListN.{length};
 ghost use Rattle.answer.specs.Limits.{maxInput};
 ghost use Rattle.repeats.specs.Reading.{Within};
+use checks::limits::MAX_INPUT;
 use libc::STDIN_FILENO;
 use libc::STDOUT_FILENO;
+use listing::MAX_LISTING;
 
 // One byte over the most that the reader accepts: whatever follows changes nothing (`listing-first`).
-const INPUT: usize = 8_193;
+const INPUT: usize = MAX_INPUT + 1;
 
 // The most bytes that are printed.
-const OUTPUT: usize = 389_120;
+const OUTPUT: usize = MAX_LISTING;
 
 // What reading came to: so many bytes, to the end of the input or of the buffer; or a read failed.
 enum Reading {
