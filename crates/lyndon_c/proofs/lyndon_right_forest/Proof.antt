@@ -18,7 +18,11 @@ same-length-2 : tie.Need-same-length-2
 same-length-2 c = search needs
 
 returns : tie.Need-returns
-returns c = let a = c .before .before .before .before .before .right-forest .ensures in (answer-handed-on _ _ _ (c .exported .ensures) (a .0), (content-handed-on _ _ _ _ _ (a .0) (a .1 .0), content-handed-on _ _ _ _ _ (a .0) (a .1 .1)))
+returns c =
+    let a = c .before .before .before .before .before .right-forest .ensures in (
+      answer-handed-on _ _ _ (c .exported .ensures) (a .0),
+      (content-handed-on _ _ _ _ _ (a .0) (a .1 .0), content-handed-on _ _ _ _ _ (a .0) (a .1 .1)),
+    )
 
 pub lyndon-right-forest-spec : {M : Type 1} → statement M
 lyndon-right-forest-spec =

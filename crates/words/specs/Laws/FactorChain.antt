@@ -139,7 +139,9 @@ module _ {ℓ κ} {A : Type ℓ} (O : Letters {ℓ, κ} A) (z : A) (x : List A) 
             )
         last (v ∷ vs) rest a′ r′ is b w tail =
             let t = tail (r′ .1) in
-            (i + length u, is, lyndon-next O (letters z x) (length x) i (i + length u) w b (drop-at t (suffix-compare O (letters z x) (length x) compared i (i + length u) (omega arith) b (λ q. omega (arith, w .non-empty)))), t)
+            let j = i + length u in
+            let compared-at = suffix-compare O (letters z x) (length x) compared i j (omega arith) b (λ q. omega (arith, w .non-empty)) in
+            (j, is, lyndon-next O (letters z x) (length x) i j w b (drop-at t compared-at), t)
           where
             drop-at : LinkedSpans O z x (i + length u) (v ∷ vs) → SuffixLess O (letters z x) (length x) i (i + length u) ⊎ SuffixLess O (letters z x) (length x) (i + length u) i →
                 SuffixLess O (letters z x) (length x) (i + length u) i

@@ -118,7 +118,9 @@ module _ {ℓ} {A : Type ℓ} (E : DecidedEquality A) (x : List A) where
             no-right = stopsRight-holds e p (omega arith) .0 (both .1);
           }
       go false z = λ q r.
-          let same : q ≡ p = least-unique (λ k. (0 < k) × HasPeriod x s e k) (r .positive, r .period) (λ k l h. r .smallest k (h .0) l (h .1)) (f .1 .reached, period) (λ k l h. smaller k (h .0) l (h .1)) in
+          let same : q ≡ p =
+          least-unique (λ k. (0 < k) × HasPeriod x s e k) (r .positive, r .period) (λ k l h. r .smallest k (h .0) l (h .1)) (f .1 .reached, period)
+          (λ k l h. smaller k (h .0) l (h .1)) in
           let run : Run x s e p = rw same at r in
           subst T z (stops .1 (stopsLeft-holds s p .1 (run .no-left), stopsRight-holds e p (omega arith) .1 (run .no-right)))
 
