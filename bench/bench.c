@@ -124,17 +124,17 @@ static void arrays(int f, size_t n) {
     if (f == 3) numbers[n - 1] = 2;
 }
 
-static const char *record_names[] = {"one line", "lines of 60 letters", "a letter a line, CR LF"};
+static const char *record_names[] = {"one line", "lines of 60 letters", "a letter a line, CR LF", "lines of 60, cases mixed"};
 static const char *record_name(int f) { return record_names[f]; }
 static void records(int f, size_t n) {
-    size_t width = f == 0 ? n : f == 1 ? 60 : 1, i = 4;
+    size_t width = f == 0 ? n : f == 2 ? 1 : 60, i = 4;
     memcpy(text, ">m1\n", 4);
     for (size_t in_line = 0; i < n; i++) {
         if (in_line == width && i + 1 < n) {
             if (f == 2) text[i++] = '\r';
             text[i] = '\n', in_line = 0;
         } else
-            text[i] = (uint8_t) "ACGT"[random_number() & 3], in_line++;
+            text[i] = (uint8_t)(f == 3 ? "ACGTacgt"[random_number() & 7] : "ACGT"[random_number() & 3]), in_line++;
     }
 }
 
@@ -215,7 +215,7 @@ int main(void) {
         {"left forest", 0, our_left_forest, their_left_forest, 0, texts, family_count(), family_name, TEXT_SIZES, 2.5},
         {"right forest", 0, our_right_forest, their_right_forest, 0, arrays, family_count() + 4, array_name, TEXT_SIZES, 2.5},
         {"reconstruct", 0, our_reconstruct, their_reconstruct, 0, arrays, family_count() + 4, array_name, TEXT_SIZES, 2.5},
-        {"FASTA reader", 0, our_reader, their_reader, 0, records, 3, record_name, {512, 1024, 2048}, 0},
+        {"FASTA reader", 0, our_reader, their_reader, 0, records, 4, record_name, {512, 1024, 2048}, 0},
     };
     int count = (int)(sizeof calls / sizeof calls[0]);
     static struct result results[32];

@@ -1,7 +1,9 @@
 /* The FASTA reader in C, for inputs that are accepted, to compare speed with: one pass that checks, one that writes. */
 #include "reference.h"
 
-static int letter(uint8_t c) { return (c >= 'A' && c <= 'Z') || (c >= 'a' && c <= 'z'); }
+static int small(uint8_t c) { return c >= 'a' && c <= 'z'; }
+
+static int letter(uint8_t c) { return (c >= 'A' && c <= 'Z') || small(c); }
 
 size_t reference_read_fasta(const uint8_t *x, size_t n, uint8_t *letters) {
     size_t i = 1, count = 0;
@@ -17,6 +19,6 @@ size_t reference_read_fasta(const uint8_t *x, size_t n, uint8_t *letters) {
     }
     count = 0;
     for (i = body; i < n; i++)
-        if (letter(x[i])) letters[count++] = x[i];
+        if (letter(x[i])) letters[count++] = small(x[i]) ? x[i] - 32 : x[i];
     return count;
 }

@@ -53,7 +53,7 @@ lyndon_answer lyndon_array_u32(const uint32_t *text, size_t n, uint32_t order, u
 
 /* All runs (maximal periodicities) of a text: list holds start, last position and period for each run, by start and then by last
  * position; the count is the number of runs. The list needs 6 n places, the work buffer 2 n; afterwards work holds the rising Lyndon
- * array and then the falling one. Refusals 1, 2, 4 (list), 5. */
+ * array and then the falling one. Bytes are compared as they are: 'a' and 'A' are two letters. Refusals 1, 2, 4 (list), 5. */
 lyndon_answer lyndon_runs(const uint8_t *text, size_t n, uint32_t *work, size_t work_len, uint32_t *list, size_t list_len);
 
 /* The Lyndon factorization, rising: out holds the starts of the factors, the unique Lyndon words u0 >= u1 >= .. whose row is the text.
@@ -79,8 +79,9 @@ lyndon_answer lyndon_right_forest(const uint32_t *array, size_t n, uint32_t *fir
  * count is n. Refusals 1, 2, 4, 6, 7, 8. */
 lyndon_answer lyndon_reconstruct(const uint32_t *array, size_t n, uint32_t *text, size_t text_len);
 
-/* The letters, A to Z and a to z as they are, of a FASTA input of one record: '>', a name of 1 to 60 bytes from 33 to 126 ended by space,
- * tab, CR, LF or the end, the rest of that line, then sequence lines of letters. LF, or CR and LF, ends a line; blank lines are skipped.
+/* The letters of a FASTA input of one record, as capitals: a lower-case letter is the same base, masked, and a to z are written as A to Z.
+ * A record is '>', a name of 1 to 60 bytes from 33 to 126 ended by space, tab, CR, LF or the end, the rest of that line, then sequence lines
+ * of letters, A to Z and a to z. LF, or CR and LF, ends a line; blank lines are skipped.
  * An input has at most 8,192 bytes, and may be empty (refusal 9). The letters buffer needs 2,048 places, whatever the input; the count
  * is the number of letters. Refusals 4, 15, 9, 10, 11, 12, 14, 13. */
 lyndon_answer lyndon_read_fasta(const uint8_t *input, size_t len, uint8_t *letters, size_t letters_len);

@@ -355,14 +355,14 @@ pub fn listed(numbers: &[u32]) -> impl Iterator<Item = Run> + '_ {
     numbers.chunks_exact(3).map(|run| Run { start: run[0], last: run[1], period: run[2] })
 }
 
-/// The letters of a FASTA input of one record, kept as they are.
+/// The letters of a FASTA input of one record, as capitals: a lower-case letter is the same base, masked.
 ///
 /// # Errors
 ///
 /// Refuses an input that is not one record within the limits (refusals 9 to 15).
 ///
 /// ```
-/// assert_eq!(lyndon::read_fasta(b">m1 a name\nACgt\r\nNN\n")?, b"ACgtNN");
+/// assert_eq!(lyndon::read_fasta(b">m1 a name\nACgt\r\nNN\n")?, b"ACGTNN");
 /// let error = lyndon::read_fasta(b">m1\nAC-GT\n").unwrap_err();
 /// assert_eq!((error.number, error.position), (11, 6));
 /// # Ok::<(), lyndon::Error>(())

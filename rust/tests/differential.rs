@@ -300,24 +300,29 @@ fn valid_input(numbers: &mut Numbers) -> Vec<u8> {
     input
 }
 
+/// One change: a byte put in, taken out or replaced, or an early end.
+fn damage(numbers: &mut Numbers, input: &mut Vec<u8>) {
+    let odd = b"\r\n>\n\r\n>@[`{AZaz \t\x00\x1f!~\x7f\x80\xff0-*";
+    let i = numbers.below(input.len() + 1);
+    match numbers.below(4) {
+        0 => input.insert(i, numbers.pick(odd)),
+        1 if i < input.len() => {
+            input.remove(i);
+        }
+        2 => input.truncate(i),
+        _ if i < input.len() => input[i] = numbers.pick(odd),
+        _ => {}
+    }
+}
+
 #[test]
 fn inputs_changed_at_random() {
     let mut numbers = Numbers::new(6);
-    let odd = b"\r\n>\n\r\n>@[`{AZaz \t\x00\x1f!~\x7f\x80\xff0-*";
     let mut seen = [0; 16];
     for round in 0..40_000 {
         let mut input = valid_input(&mut numbers);
         for _ in 0..round % 4 {
-            let i = numbers.below(input.len() + 1);
-            match numbers.below(4) {
-                0 => input.insert(i, numbers.pick(odd)),
-                1 if i < input.len() => {
-                    input.remove(i);
-                }
-                2 => input.truncate(i),
-                _ if i < input.len() => input[i] = numbers.pick(odd),
-                _ => {}
-            }
+            damage(&mut numbers, &mut input);
         }
         let places = numbers.pick(&[2048, 2048, 2049, 2060, 2060, 2047, 0]);
         if let Expected::Refused { number, .. } = definitions::read_fasta(&input, places) {
@@ -354,7 +359,7 @@ fn inputs_at_the_limits() {
                 for end in [b"".as_slice(), b"\n", b"\r\n", b"\r", b"\n>", b"!", b"A"] {
                     let mut input = [b">".as_slice(), &vec![b'm'; name], b"\n"].concat();
                     for i in 0..letters {
-                        input.push(numbers.pick(b"ACGT"));
+                        input.push(numbers.pick(b"ACGTacgt"));
                         if i % width == width - 1 {
                             input.push(b'\n');
                         }
@@ -399,6 +404,55 @@ fn listings() {
         let want = definitions::listing(&input, faster::runs);
         assert_eq!(String::from_utf8_lossy(&common::lister::run(&program, &input)), String::from_utf8_lossy(&want));
     }
+}
+
+/// Letters behind the header line in the other case change no answer, no content and no listing, of a refused input neither.
+#[test]
+fn letters_in_the_other_case() {
+    let program = common::lister::program();
+    let mut numbers = Numbers::new(25);
+    let (mut seen, mut changed) = ([0; 16], 0);
+    for round in 0..12_000 {
+        let mut input = match round % 8 {
+            0 => {
+                let n = 1 + numbers.below(2048);
+                let x = common::repetitive(&mut numbers, n);
+                [b">Chr1 of a test\n".as_slice(), &x, b"\n"].concat()
+            }
+            // Letters about as many as there may be, or bytes.
+            1 if round % 5 == 0 => {
+                let n = numbers.pick(&[2047, 2048, 2049, 8188, 8189, 8190]);
+                [b">m\n".as_slice(), &numbers.text(b"ACGTacgt", n)].concat()
+            }
+            _ => valid_input(&mut numbers),
+        };
+        for _ in 0..numbers.below(4) {
+            damage(&mut numbers, &mut input);
+        }
+        let header = input.iter().position(|&byte| byte == b'\n').unwrap_or(input.len());
+        let mut other = input.clone();
+        for byte in &mut other[header..] {
+            if byte.is_ascii_alphabetic() && numbers.below(3) == 0 {
+                *byte ^= 32;
+            }
+        }
+        changed += usize::from(input != other);
+        let places = numbers.pick(&[2048, 2050, 2050, 2050, 2050, 2047]);
+        let mut letters = [vec![0; places], vec![0; places]];
+        let [one, two] = &mut letters;
+        let got = common::read_fasta(&other, two);
+        assert_eq!(common::read_fasta(&input, one), got);
+        assert_eq!(one, two);
+        check_reader(&other, places);
+        seen[got.map_or_else(|error| error.number as usize, |_| 0)] += 1;
+        if round % 37 == 0 {
+            let listing = common::lister::run(&program, &other);
+            assert!(listing == common::lister::run(&program, &input));
+            assert!(listing == definitions::listing(&other, faster::runs));
+        }
+    }
+    assert!(changed > 6000, "{changed} inputs were changed");
+    assert!([0, 4, 9, 10, 11, 12, 13, 14, 15].iter().all(|&number| seen[number] > 20), "all kinds of answers occur: {seen:?}");
 }
 
 // Long texts

@@ -229,7 +229,7 @@ fn reader() {
         }
         if round % 50 == 0 {
             let letters = numbers.pick(&[2047, 2048, 2049, 8187, 8188, 8189]);
-            input = [b">m\n".as_slice(), &numbers.text(b"ACGT", letters)].concat();
+            input = [b">m\n".as_slice(), &numbers.text(b"ACGTacgt", letters)].concat();
         }
         for side in [Side::End, Side::Start] {
             let mut given = Guarded::new(&input, side);

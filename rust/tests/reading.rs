@@ -8,8 +8,8 @@ use std::collections::HashMap;
 use std::fs;
 use std::path::{Path, PathBuf};
 
-/// Words in backquotes that are no name of the project: parts of the two languages, and document 01's texts.
-const NOT_NAMES: &[&str] = &["requires", "match", "refl", "break", "main", "specs", "aabaab", "rt", "cond"];
+/// Words in backquotes that are no name of the project: parts of the two languages, and texts of documents 01 and 02.
+const NOT_NAMES: &[&str] = &["requires", "match", "refl", "break", "main", "specs", "aabaab", "AAbaab", "rt", "cond"];
 
 fn root() -> PathBuf {
     Path::new(env!("CARGO_MANIFEST_DIR")).parent().unwrap().to_path_buf()

@@ -164,6 +164,27 @@ fn the_listing_of_the_specification() {
     assert_eq!(common::lister::run(&common::lister::program(), input), want);
 }
 
+/// Document 02, E2.
+#[test]
+fn lower_case_is_masking() {
+    let program = common::lister::program();
+    let listing = |letters: &str| String::from_utf8(common::lister::run(&program, format!(">m1\n{letters}\n").as_bytes())).unwrap();
+    assert_eq!(listing("AAbaab"), listing("aabaab"));
+    assert_eq!(listing("AABAAB"), listing("aabaab"));
+    // A repeat that changes case in the middle.
+    assert_eq!(listing("ACGacgACg"), "m1\t0\t9\tp3\n");
+    assert_eq!(listing("ACGac\r\ngACg"), "m1\t0\t9\tp3\n");
+    // Every letter, and the bytes beside the two ranges.
+    let small: Vec<u8> = (b'a'..=b'z').collect();
+    let capital: Vec<u8> = (b'A'..=b'Z').collect();
+    assert_eq!(lyndon::read_fasta(&[b">m1\n", &small[..], b"\n", &capital[..]].concat()).unwrap(), [&capital[..], &capital[..]].concat());
+    for byte in *b"@[`{" {
+        assert_eq!(refusal(lyndon::read_fasta(&[b">m1\na", &[byte][..]].concat())), (11, 5));
+    }
+    // The name is printed as it stands.
+    assert_eq!(common::lister::run(&program, b">aB\naA\n"), b"aB\t0\t2\tp1\n");
+}
+
 #[test]
 fn every_refusal_has_a_sentence() {
     let sentences: Vec<String> = (1..=15).map(|number| Error { number, position: 7 }.to_string()).collect();

@@ -6,9 +6,13 @@ use Prim.Native.Nat.{ℕ, _≤_}
 use native.Mathlib.Decide.{decLe}
 use Rattle.fasta_record.specs.Bytes.{lineEnd, carriageReturn}
 
+-- "A to Z".
+abbrev pub IsCapital : ℕ → Type 0
+IsCapital b = (65 ≤ b) × (b ≤ 90)
+
 -- "letters A to Z and a to z".
 abbrev pub IsLetter : ℕ → Type 0
-IsLetter b = ((65 ≤ b) × (b ≤ 90)) ⊎ ((97 ≤ b) × (b ≤ 122))
+IsLetter b = IsCapital b ⊎ ((97 ≤ b) × (b ≤ 122))
 
 -- "bytes from 33 to 126 (decimal)".
 abbrev pub InName : ℕ → Type 0

@@ -1,21 +1,28 @@
--- An accepted input, and one for each refusal, computed.
+-- An accepted input, one for each refusal, and one in the other case, computed.
 -- Assumes nothing.
 use mathlib.Core.Path.{_≡_, refl}
+use mathlib.Core.Logic.{inr}
 use mathlib.Core.List.{List, [], _∷_}
-use Prim.Native.Nat.{ℕ}
-use lib.ListN.{replicate}
+use Prim.Native.Nat.{ℕ, zero, suc, _≤_, _<_}
+use native.Mathlib.Omega.{arith}
+use lib.ListN.{getD, replicate}
 use Rattle.answer.specs.declared.Reason.the-variants.{ShortOutput, NoHeader, BadName, UnfitByte, SecondRecord, NoLetters, TooManyLetters, FileTooLong}
 use Rattle.answer.specs.Answers.{acceptedWith, refusedFor}
 use Rattle.fasta_record.specs.Bytes.{headerMark, lineEnd}
+use Rattle.fasta.specs.Case.{UpToCase, lowered, raised, CaseChanged}
 use Rattle.fasta.specs.Reader.{readerAnswer, lettersOf, nameEndAfter}
 
 -- `>m`, LF, `AC`, CR, LF, LF, `gt`: four letters.
 four-letters : readerAnswer (62 ∷ 109 ∷ 10 ∷ 65 ∷ 67 ∷ 13 ∷ 10 ∷ 10 ∷ 103 ∷ 116 ∷ []) 2048 ≡ acceptedWith 4
 four-letters = refl
 
--- They are kept as they are.
-letters-kept : lettersOf (62 ∷ 109 ∷ 10 ∷ 65 ∷ 67 ∷ 13 ∷ 10 ∷ 10 ∷ 103 ∷ 116 ∷ []) ≡ 65 ∷ 67 ∷ 103 ∷ 116 ∷ []
-letters-kept = refl
+-- They are handed on as capitals: `ACGT`.
+four-capitals : lettersOf (62 ∷ 109 ∷ 10 ∷ 65 ∷ 67 ∷ 13 ∷ 10 ∷ 10 ∷ 103 ∷ 116 ∷ []) ≡ 65 ∷ 67 ∷ 71 ∷ 84 ∷ []
+four-capitals = refl
+
+-- The letters at the ends of the two ranges, `AZaz`: `AZAZ`.
+ends-of-ranges : lettersOf (62 ∷ 109 ∷ 10 ∷ 65 ∷ 90 ∷ 97 ∷ 122 ∷ []) ≡ 65 ∷ 90 ∷ 65 ∷ 90 ∷ []
+ends-of-ranges = refl
 
 -- The name ends at 2.
 name-end :
@@ -65,3 +72,41 @@ letter-too-many = refl
 -- `>m`, CR, `AC`: the rest of the first line is ignored.
 no-letters : readerAnswer (62 ∷ 109 ∷ 13 ∷ 65 ∷ 67 ∷ []) 2048 ≡ refusedFor NoLetters 5
 no-letters = refl
+
+-- `>m`, LF, `aC`
+abbrev one-case : List ℕ
+one-case = 62 ∷ 109 ∷ 10 ∷ 97 ∷ 67 ∷ []
+
+-- and `>m`, LF, `Ac`
+abbrev other-case : List ℕ
+other-case = 62 ∷ 109 ∷ 10 ∷ 65 ∷ 99 ∷ []
+
+-- differ in the case of their sequence letters only.
+case-changed : CaseChanged one-case other-case
+case-changed =
+    record {
+      header-end = 2;
+      ends = record { from = omega arith; no-earlier = λ k h l. no-line-end k l; here = inr (record { inside = omega arith; byte = refl }) };
+      size = refl;
+      header = header;
+      lines = lines;
+    }
+  where
+    no-line-end : (k : ℕ) → k < 2 → ¬ (getD one-case k 0 ≡ lineEnd)
+    no-line-end zero h e = omega arith
+    no-line-end (suc zero) h e = omega arith
+    no-line-end (suc (suc k)) h e = omega arith
+
+    header : (k : ℕ) → k ≤ 2 → getD one-case k 0 ≡ getD other-case k 0
+    header zero h = refl
+    header (suc zero) h = refl
+    header (suc (suc zero)) h = refl
+    header (suc (suc (suc k))) h = absurd (omega arith)
+
+    lines : (k : ℕ) → 2 < k → k < 5 → UpToCase (getD one-case k 0) (getD other-case k 0)
+    lines zero h l = absurd (omega arith)
+    lines (suc zero) h l = absurd (omega arith)
+    lines (suc (suc zero)) h l = absurd (omega arith)
+    lines (suc (suc (suc zero))) h l = raised (omega arith, omega arith) refl
+    lines (suc (suc (suc (suc zero)))) h l = lowered (omega arith, omega arith) refl
+    lines (suc (suc (suc (suc (suc k))))) h l = absurd (omega arith)

@@ -1,6 +1,7 @@
 pub mod Classes
 pub mod Stands
 pub mod SequenceLetters
+pub mod Case
 pub mod NameRows
 pub mod NameBytes
 pub mod LineRows

@@ -1,4 +1,4 @@
--- The letters of the sequence lines of a FASTA record.
+-- The letters of the sequence lines of a FASTA record, as they are handed on (document 02, E2).
 -- Assumes nothing.
 use mathlib.Core.List.{List, [], _∷_}
 use Prim.Native.Nat.{ℕ}
@@ -7,7 +7,7 @@ use Rattle.fasta_record.specs.declared.bytes.Kind.{Kind}
 use Rattle.fasta_record.specs.declared.bytes.Kind.the-variants.{Letter, LineEnd, CarriageReturn, HeaderMark, Unfit}
 use Rattle.fasta_record.specs.Bytes.{kindOf, letterOf}
 
--- The letters before those of the lines that follow, where the byte b of this kind is a letter.
+-- What is handed on for the byte b, where its kind is a letter, before the letters of what follows.
 abbrev pub letterBefore : Kind → ℕ → List ℕ → List ℕ
 letterBefore Letter b l = letterOf b ∷ l
 letterBefore LineEnd b l = l
@@ -20,6 +20,6 @@ abbrev pub lettersIn : List ℕ → List ℕ
 lettersIn [] = []
 lettersIn (b ∷ s) = letterBefore (kindOf b) b (lettersIn s)
 
--- The letter at position p of x, if one stands there.
+-- What is handed on for position p of x, if a letter stands there.
 abbrev pub letterAt : List ℕ → ℕ → List ℕ
 letterAt x p = letterBefore (kindOf (getD x p 0)) (getD x p 0) []

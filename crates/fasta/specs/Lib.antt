@@ -2,7 +2,9 @@ pub mod Letters
 pub mod Reader
 pub mod Classes
 pub mod Rows
+pub mod Case
 pub mod CheckOrder
 pub mod Examples
 pub mod Laws
 pub mod RowTheorems
+pub mod CaseTheorems

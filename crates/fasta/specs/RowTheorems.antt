@@ -2,6 +2,7 @@
 -- and never otherwise.
 -- Assumes nothing.
 use mathlib.Core.Path.{_≡_, ap, subst}
+use mathlib.Core.Bool.{Bool, true, false}
 use mathlib.Core.Logic.{_↔_}
 use mathlib.Core.List.{List, map}
 use Prim.Native.Nat.{ℕ, _≤_}
@@ -10,14 +11,16 @@ use lib.ListN.{length, take, drop}
 use Rattle.words.specs.ExactlyOne.{ExactlyOne}
 use Rattle.answer.specs.declared.Answer.{Answer}
 use Rattle.answer.specs.declared.Reason.{Reason}
+use Rattle.answer.specs.declared.Reason.the-variants.{NoHeader}
 use Rattle.answer.specs.Answers.{acceptedWith, refusedFor}
 use Rattle.answer.specs.AfterLaws.{written-first, written-rest}
-use Rattle.fasta_record.specs.Bytes.{letterOf}
+use Rattle.fasta_record.specs.Bytes.{letterOf, headerMark, startsWith}
 use Rattle.fasta_record.specs.Record.{linesStart, nameEnd}
 use Rattle.fasta.specs.Reader.{readerAnswer, lettersOf, lettersAfter}
-use Rattle.fasta.specs.Rows.{NameEnds, HeaderEnds, sequenceLetters}
+use Rattle.fasta.specs.Rows.{Stands, NameEnds, HeaderEnds, sequenceLetters, no-header, in-record}
 use Rattle.fasta.specs.CheckOrder.{Refuses, Accepts, HasAnswer}
 use Rattle.fasta.specs.Laws.Accepted.{AcceptedInput, reader-accepted}
+use Rattle.fasta.specs.Laws.Stands.{StartSays, start-says}
 use Rattle.fasta.specs.Laws.HeaderLine.{header-unique, LinesBegin, lines-begin, record-letters}
 use Rattle.fasta.specs.Laws.CheckOrder.{reader-says}
 use Rattle.fasta.specs.Laws.OneAnswer.{answer-unique}
@@ -44,7 +47,7 @@ one-header-end x s h =
     let b : LinesBegin x s (linesStart x s) = lines-begin x s h in
     (b .header-end, record { holds = b .ends; only = λ e k. header-unique k (b .ends) })
 
--- The letters that the reader writes are the letters of the sequence lines, in their order.
+-- The letters that the reader writes are what is handed on for the letters of the sequence lines, in their order.
 pub letters-are : (x : List ℕ) (e : ℕ) → HeaderEnds x 0 e → lettersOf x ≡ map letterOf (sequenceLetters x e)
 letters-are x e h = record-letters x 0 e (omega arith) h
 
@@ -59,3 +62,11 @@ letters-written x letters c e =
 -- The name of an accepted input ends where document 01 says; `recordName` is what stands between the '>' and that position.
 pub accepted-name : (x : List ℕ) (places c : ℕ) → readerAnswer x places ≡ acceptedWith c → NameEnds x 0 (nameEnd x 0)
 accepted-name x places c e = reader-accepted x places c (ap (λ (b : Answer). b .outcome) e) .name
+
+-- An accepted input begins with '>'.
+pub accepted-mark : (x : List ℕ) (places c : ℕ) → readerAnswer x places ≡ acceptedWith c → Stands x 0 headerMark
+accepted-mark x places c e = go (startsWith headerMark x) (start-says x 0 headerMark)
+  where
+    go : (t : Bool) → StartSays x 0 headerMark t → Stands x 0 headerMark
+    go true h = h
+    go false h = absurd (accepted-exactly x places c .0 e .no-row NoHeader 0 (in-record (no-header h)))

@@ -9,8 +9,8 @@ use fasta_record::bytes::Kind;
 use fasta_record::bytes::kind_of;
 use fasta_record::bytes::letter_of;
 
-// Puts the byte at `at` behind the `count` letters that `letters` holds, where it is a letter, and
-// returns how many it holds then.
+// Puts what is handed on for the byte at `at` behind the `count` letters that `letters` holds, where
+// it is a letter, and returns how many it holds then.
 fn keep_letter(input: &[u8], at: usize, letters: &mut [u8], count: usize) -> usize
     requires { ⌜ at < length (now input) ⌝ }
     requires { ⌜ count + length (letterAt (now input) at) ≤ length (now letters) ⌝ }
@@ -30,7 +30,7 @@ fn keep_letter(input: &[u8], at: usize, letters: &mut [u8], count: usize) -> usi
     }
 }
 
-// Puts the letters of the sequence lines that start at `from` at the start of `letters`.
+// Puts the letters of the sequence lines that start at `from`, as capitals, at the start of `letters`.
 pub(crate) fn write_letters(input: &[u8], from: usize, letters: &mut [u8])
     requires { ⌜ length (lettersIn (drop from (now input))) ≤ length (now letters) ⌝ }
     ensures content { λ _. ⌜ now (letters .exit) ≡ written (lettersIn (drop from (now (input .entry)))) (now (letters .entry)) ⌝ }

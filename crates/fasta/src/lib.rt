@@ -76,7 +76,7 @@ fn read_record(input: &[u8], letters: &mut [u8]) -> NamedAnswer
     }
 }
 
-// Reads the letters of a FASTA input into `letters`, and tells where its name ends. A refusal changes nothing.
+// Reads the letters of a FASTA input, as capitals, into `letters`, and tells where its name ends. A refusal changes nothing.
 pub fn read_named(input: &[u8], letters: &mut [u8]) -> NamedAnswer
     ensures answer { λ r. ⌜ r .answer ≡ readerAnswer (now (input .entry)) (length (now (letters .entry))) ⌝ }
     ensures content { λ r. ⌜ now (letters .exit) ≡ contentAfter (r .answer) (lettersOf (now (input .entry))) (now (letters .entry)) ⌝ }
@@ -92,7 +92,7 @@ pub fn read_named(input: &[u8], letters: &mut [u8]) -> NamedAnswer
     }
 }
 
-// Reads the letters of a FASTA input into `letters`. A refusal changes nothing.
+// Reads the letters of a FASTA input, as capitals, into `letters`. A refusal changes nothing.
 pub fn read(input: &[u8], letters: &mut [u8]) -> Answer
     ensures answer { λ r. ⌜ r ≡ readerAnswer (now (input .entry)) (length (now (letters .entry))) ⌝ }
     ensures content { λ r. ⌜ now (letters .exit) ≡ contentAfter r (lettersOf (now (input .entry))) (now (letters .entry)) ⌝ }

@@ -2,7 +2,7 @@
 -- Assumes nothing.
 use mathlib.Core.Bool.{Bool, false, cond, _&&_, _||_}
 use mathlib.Core.List.{List, [], _∷_}
-use Prim.Native.Nat.{ℕ}
+use Prim.Native.Nat.{ℕ, _-_}
 use lib.Dec.{leb, eqb}
 use Rattle.fasta_record.specs.declared.bytes.Kind.{Kind}
 use Rattle.fasta_record.specs.declared.bytes.Kind.the-variants.{Letter, LineEnd, CarriageReturn, HeaderMark, Unfit}
@@ -21,9 +21,10 @@ kindOf b =
     (cond (eqb b 13) CarriageReturn
     (cond (eqb b 62) HeaderMark Unfit)))
 
--- The letter that the reader hands on for a letter of the input: "kept as they are".
+-- What the reader hands on for a letter of the input: "capitals only". A lower-case letter "is the same base" as its capital, whose number is
+-- less by 32; any other byte stays (document 02, E2).
 abbrev pub letterOf : ℕ → ℕ
-letterOf b = b
+letterOf b = cond (within 97 122 b) (b - 32) b
 
 -- In a name: space, tab, CR and LF end it, 33 to 126 are its bytes.
 abbrev pub nameByteOf : ℕ → NameByte

@@ -68,9 +68,12 @@ pub(crate) fn stands_at(byte: u8, input: &[u8], at: usize) -> bool
     }
 }
 
-// The letter that is handed on for the letter `byte`.
+// What is handed on for the letter `byte`: a to z become A to Z, any other byte stays.
 pub fn letter_of(byte: u8) -> u8
     ensures result { λ r. ⌜ r ≡ letterOf byte ⌝ }
 {
-    byte
+    match byte {
+        97..=122 => byte - 32,
+        _ => byte,
+    }
 }

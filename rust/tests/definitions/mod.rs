@@ -209,7 +209,8 @@ pub fn read_fasta(input: &[u8], places: usize) -> Expected<u8> {
             b'\r' if input.get(i + 1) == Some(&b'\n') => {}
             b'>' if input[i - 1] == b'\n' => return refused(12, i),
             b'A'..=b'Z' | b'a'..=b'z' if letters.len() == 2048 => return refused(14, i),
-            b'A'..=b'Z' | b'a'..=b'z' => letters.push(input[i]),
+            b'A'..=b'Z' => letters.push(input[i]),
+            b'a'..=b'z' => letters.push(input[i] - b'a' + b'A'),
             _ => return refused(11, i),
         }
     }

@@ -152,7 +152,7 @@ static void of_a_record(void) {
     for (size_t i = 0; i < n; i++) content[i] = (uint8_t)record[i];
     start(content, n);
     answered(lyndon_read_fasta(text, n, letters, 2048), 0, 4);
-    if (memcmp(letters, "ACgt", 4) != 0 || letters[4] != 0xa5) fail("the letters are not those of the record");
+    if (memcmp(letters, "ACGT", 4) != 0 || letters[4] != 0xa5) fail("the letters are not those of the record");
     n = sizeof unfit - 1;
     for (size_t i = 0; i < n; i++) content[i] = (uint8_t)unfit[i];
     start(content, n);

@@ -15,11 +15,11 @@ use Rattle.fasta_record.specs.Bytes.{within, kindOf, nameByteOf, headerMark, li
 use Rattle.fasta.specs.Classes.{IsLetter, InName, EndsName}
 
 -- What the test of a range says.
-abbrev WithinSays : ℕ → ℕ → ℕ → Bool → Type 0
+abbrev pub WithinSays : ℕ → ℕ → ℕ → Bool → Type 0
 WithinSays low high b true = (low ≤ b) × (b ≤ high)
 WithinSays low high b false = ¬ ((low ≤ b) × (b ≤ high))
 
-within-says : (low high b : ℕ) → WithinSays low high b (within low high b)
+pub within-says : (low high b : ℕ) → WithinSays low high b (within low high b)
 within-says low high b = go (leb low b) (leb b high) refl refl
   where
     go : (s t : Bool) → leb low b ≡ s → leb b high ≡ t → WithinSays low high b (s && t)

@@ -86,7 +86,7 @@ lines-bytes {x} {s} {q} b = go (b .place)
     go (inl z) = rw (drop-of-length-le x {i = q} (omega arith), drop-of-length-le x {i = suc (b .header-end)} (omega arith))
     go (inr z) = rw (z .1)
 
--- The letters of a record that is the input's last are those of its sequence lines.
+-- The letters of a record that is the input's last are what is handed on for those of its sequence lines.
 pub record-letters :
     (x : List ℕ) (s e : ℕ) → s ≤ length x → HeaderEnds x s e → recordLetters x s ≡ map letterOf (sequenceLetters x e)
 record-letters x s e h ends =

@@ -15,7 +15,7 @@ use Rattle.fasta.specs.Letters.{letterBefore, lettersIn}
 use Rattle.fasta.specs.Rows.{sequenceLetters}
 use Rattle.fasta.specs.Laws.Classes.{KindSays, kind-says, letter-other}
 
--- The letters of lines are those of their bytes that are letters.
+-- The letters of lines are what is handed on for those of their bytes that are letters.
 pub letters-filtered : (s : List ℕ) → lettersIn s ≡ map letterOf (filter letter? s)
 letters-filtered [] = refl
 letters-filtered (b ∷ s) = go (kindOf b) (letter? b) (kind-says b) (letters-filtered s)

@@ -13,6 +13,14 @@ use Rattle.words.specs.Word.{ProperPrefix, StronglyLess}
 abbrev pub Alike {ℓ} : {A : Type ℓ} → A → List A → List A → ℕ → Type ℓ
 Alike z u v d = (k : ℕ) → k < d → getD u k z ≡ getD v k z
 
+-- Up to there they are the same.
+pub take-alike {ℓ} : {A : Type ℓ} (z : A) (u v : List A) (d : ℕ) → d ≤ length u → d ≤ length v → Alike z u v d → take d u ≡ take d v
+take-alike z u v d p q h =
+    ext-getD z (take d u) (take d v) (length-take-le d u p ∙ sym (length-take-le d v q))
+    (λ i l.
+    let l′ : i < d = subst (λ (m : ℕ). i < m) (length-take-le d u p) l in
+    getD-take d u i z l′ ∙ h i l′ ∙ sym (getD-take d v i z l′))
+
 -- u and v first differ at an offset inside both, where u has the smaller letter.
 pub record DiffersAt {ℓ κ} {A : Type ℓ} (O : Letters {ℓ, κ} A) (z : A) (u v : List A) (d : ℕ) : Type (ℓ ⊔ κ) where
   pub in-left : d < length u
@@ -40,13 +48,6 @@ module _ {ℓ κ} {A : Type ℓ} (O : Letters {ℓ, κ} A) (z : A) where
     },
   )
 
-  take-alike : (u v : List A) (d : ℕ) → d ≤ length u → d ≤ length v → Alike z u v d → take d u ≡ take d v
-  take-alike u v d p q h =
-      ext-getD z (take d u) (take d v) (length-take-le d u p ∙ sym (length-take-le d v q))
-      (λ i l.
-      let l′ : i < d = subst (λ (m : ℕ). i < m) (length-take-le d u p) l in
-      getD-take d u i z l′ ∙ h i l′ ∙ sym (getD-take d v i z l′))
-
   pub differs-strongly-less : (u v : List A) (d : ℕ) → DiffersAt O z u v d → StronglyLess O u v
   differs-strongly-less u v d h =
       record {
@@ -58,7 +59,7 @@ module _ {ℓ κ} {A : Type ℓ} (O : Letters {ℓ, κ} A) (z : A) where
         left = split-at u d z (h .in-left);
         right =
             split-at v d z (h .in-right) ∙
-            ap (λ (w : List A). w ++ (getD v d z ∷ drop (suc d) v)) (sym (take-alike u v d (omega arith) (omega arith) (h .alike)));
+            ap (λ (w : List A). w ++ (getD v d z ∷ drop (suc d) v)) (sym (take-alike z u v d (omega arith) (omega arith) (h .alike)));
         smaller = h .smaller;
       }
 
@@ -80,5 +81,5 @@ module _ {ℓ κ} {A : Type ℓ} (O : Letters {ℓ, κ} A) (z : A) where
         joined =
             sym (take-append-drop (length u) v) ∙
             ap (λ (w : List A). w ++ drop (length u) v)
-            (sym (take-alike u v (length u) (omega arith) (omega arith) h) ∙ take-length u);
+            (sym (take-alike z u v (length u) (omega arith) (omega arith) h) ∙ take-length u);
       }
