@@ -6,16 +6,16 @@ use mathlib.Core.Logic.{_⊎_, inl, inr}
 use mathlib.Core.List.{List, [], _∷_}
 use Prim.Native.Nat.{ℕ, zero, suc, _+_, _-_, _≤_, _<_}
 use native.Mathlib.Omega.{arith}
-use native.Mathlib.Decide.{decLe, decLt}
+use native.Mathlib.Decide.{decLe}
 use borrow.Author.Tests.{ne-eqb}
 use lib.Dec.{eqb}
 use lib.ListN.{length, getD, drop}
+use Rattle.answer.specs.declared.Reason.the-variants.{NoHeader, UnfitByte}
 use Rattle.fasta_record.specs.declared.bytes.Kind.{Kind}
 use Rattle.fasta_record.specs.declared.bytes.Kind.the-variants.{Letter, LineEnd, CarriageReturn, HeaderMark, Unfit}
 use Rattle.fasta_record.specs.declared.bytes.NameByte.{NameByte}
 use Rattle.fasta_record.specs.declared.bytes.NameByte.the-variants.{Part, Past, Foreign}
 use Rattle.fasta_record.specs.declared.name.Name.{Name}
-use Rattle.answer.specs.declared.Reason.the-variants.{NoHeader, UnfitByte}
 use Rattle.fasta_record.specs.declared.lines.Ending.{Ending}
 use Rattle.fasta_record.specs.declared.lines.Ending.the-variants.{RefusedAt}
 use Rattle.fasta_record.specs.declared.lines.Step.{Step}
@@ -23,7 +23,7 @@ use Rattle.fasta_record.specs.declared.lines.Step.the-variants.{On, Off}
 use Rattle.fasta_record.specs.Bytes.{within, kindOf, letterOf, nameByteOf, startsWith, headerMark, lineEnd}
 use Rattle.fasta_record.specs.Name.{nameStep, nameFrom, endOf}
 use Rattle.fasta_record.specs.Lines.{afterLine, stepFor, linesFrom}
-use Rattle.fasta_record.specs.Record.{headerChecked, nameChecked, linesStart, recordEnding, nameEnd}
+use Rattle.fasta_record.specs.Record.{nameChecked, linesStart, recordEnding, nameEnd}
 use Rattle.fasta.specs.Classes.{IsCapital, IsLetter}
 use Rattle.fasta.specs.Case.{UpToCase, same, lowered, raised, CaseChanged}
 use Rattle.fasta.specs.Letters.{letterBefore, lettersIn}
@@ -118,6 +118,7 @@ one-class f c all {a} {b} u = go (letters-or-same u)
     go (inl e) = ap f e
     go (inr l) = all a (l .0) ∙ sym (all b (l .1))
 
+-- So the sequence lines see one kind, the header line one kind, and neither sees a mark in one of them only.
 one-kind : {a b : ℕ} → UpToCase a b → kindOf a ≡ kindOf b
 one-kind u = one-class kindOf Letter letter-kind u
 
@@ -132,7 +133,7 @@ pub data PartsUpToCase : List ℕ → List ℕ → Type 0 where
   none : PartsUpToCase [] []
   more : {a b : ℕ} {s t : List ℕ} → UpToCase a b → PartsUpToCase s t → PartsUpToCase (a ∷ s) (b ∷ t)
 
--- By positions.
+-- That they are, by positions.
 parts-by-position :
     (s t : List ℕ) → length s ≡ length t → ((k : ℕ) → k < length s → UpToCase (getD s k 0) (getD t k 0)) → PartsUpToCase s t
 parts-by-position [] [] e h = none
@@ -146,6 +147,7 @@ parts-drop zero r = r
 parts-drop (suc n) none = none
 parts-drop (suc n) (more u r) = parts-drop n r
 
+-- What the parts begin with, where their first line ends, which name and which letters they have, how their lines end.
 start-same : (c : ℕ) → c < 65 → {s t : List ℕ} → PartsUpToCase s t → startsWith c s ≡ startsWith c t
 start-same c h none = refl
 start-same c h (more u r) = one-mark c h u
