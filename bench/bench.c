@@ -1,5 +1,6 @@
 /* Prints tables: nanoseconds a letter for each call and family at three sizes, this library beside the same algorithm in C, and at the
- * end the growth and the ratio of each call. What the two write is compared in full. */
+ * end the growth and the ratio of each call, and the ratio of each ranked call to the call without ranks. What the two write is compared in
+ * full. */
 #include "families.h"
 #include "lyndon.h"
 #include "reference.h"
@@ -15,6 +16,7 @@
 static uint8_t text[LARGEST];
 static uint32_t numbers[LARGEST]; /* a text of 32-bit letters, or an array */
 static uint32_t order;
+static uint8_t ranks[256];
 
 /* What a call writes: two buffers, and its answer. */
 struct written {
@@ -86,6 +88,26 @@ static void their_reconstruct(size_t n) {
     theirs.answer = refused(number, n, at);
 }
 
+/* The ranked calls, in the order asked for; the reference has rising order by rank. */
+static void our_array_ranked(size_t n) { ours.answer = lyndon_array_ranked(text, n, order, ranks, 256, ours.first, n); }
+static void their_array_ranked(size_t n) { reference_array_u8_ranked(ranks, text, n, 0, theirs.first), theirs.answer = accepted(n); }
+
+static void our_runs_ranked(size_t n) { ours.answer = lyndon_runs_ranked(text, n, ranks, 256, ours.first, 2 * n, ours.second, 6 * n); }
+static void their_runs_ranked(size_t n) { theirs.answer = accepted(reference_runs_ranked(ranks, text, n, theirs.first, theirs.second)); }
+
+static void our_factorization_ranked(size_t n) { ours.answer = lyndon_factorization_ranked(text, n, order, ranks, 256, ours.first, n); }
+static void their_factorization_ranked(size_t n) { theirs.answer = accepted(reference_factorization_ranked(ranks, text, n, theirs.first)); }
+
+static void our_suffix_table_ranked(size_t n) { ours.answer = lyndon_suffix_table_ranked(text, n, order, ranks, 256, ours.first, n); }
+static void their_suffix_table_ranked(size_t n) { reference_suffix_table_ranked(ranks, text, n, theirs.first), theirs.answer = accepted(n); }
+
+static void our_left_forest_ranked(size_t n) {
+    ours.answer = lyndon_left_forest_ranked(text, n, order, ranks, 256, ours.first, n, ours.second, n);
+}
+static void their_left_forest_ranked(size_t n) {
+    reference_left_forest_ranked(ranks, text, n, theirs.first, theirs.second), theirs.answer = accepted(n);
+}
+
 /* The reader's n is its input's length. */
 static void our_reader(size_t n) { ours.answer = lyndon_read_fasta(text, n, (uint8_t *)ours.first, 2048); }
 static void their_reader(size_t n) { theirs.answer = accepted(reference_read_fasta(text, n, (uint8_t *)theirs.first)); }
@@ -99,6 +121,13 @@ static uint32_t random_number(void) {
 }
 
 static void texts(int f, size_t n) { family_fill(f, text, n); }
+
+/* Letters c and c + 128 have one rank, and T < G < C < A. */
+static void fill_ranks(void) {
+    static const uint8_t bases[] = "ACGT", complements[] = "TGCA";
+    for (int c = 0; c < 128; c++) ranks[c] = ranks[c + 128] = (uint8_t)c;
+    for (int i = 0; i < 4; i++) ranks[bases[i]] = ranks[bases[i] + 128] = complements[i];
+}
 
 static const char *number_names[] = {"random letters", "rising letters", "falling letters"};
 static const char *number_name(int f) { return number_names[f]; }
@@ -201,6 +230,21 @@ static struct result table(const struct call *call) {
     return result;
 }
 
+/* By rank, and in order 0 through the same form, over the call without ranks, on the first family. Runs have no order. */
+static void ranked_over_plain(const char *name, void (*ranked)(size_t), void (*plain)(size_t)) {
+    double least[3] = {1e30, 1e30, 1e30};
+    family_fill(0, text, LARGEST);
+    for (int run = 0; run < RUNS; run++)
+        for (int c = 0; c < 3; c++) {
+            order = c == 0 ? LYNDON_RANKED : LYNDON_RISING;
+            double took = timed(c < 2 ? ranked : plain, LARGEST);
+            if (took < least[c]) least[c] = took;
+        }
+    printf("  %-28s %6.2f by rank", name, least[0] / least[2]);
+    if (plain != our_runs) printf(", %.2f in order 0", least[1] / least[2]);
+    printf("; 1.6 asked for by rank: %s\n", least[0] / least[2] <= 1.6 ? "met" : "not met");
+}
+
 #define TEXT_SIZES {65536, 262144, 1048576}
 
 int main(void) {
@@ -213,12 +257,18 @@ int main(void) {
         {"factorization", 0, our_factorization, their_factorization, 0, texts, family_count(), family_name, TEXT_SIZES, 2.5},
         {"suffix table", 0, our_suffix_table, their_suffix_table, 0, texts, family_count(), family_name, TEXT_SIZES, 2.5},
         {"left forest", 0, our_left_forest, their_left_forest, 0, texts, family_count(), family_name, TEXT_SIZES, 2.5},
+        {"array of bytes, ranked", 2, our_array_ranked, their_array_ranked, 0, texts, family_count(), family_name, TEXT_SIZES, 0},
+        {"runs, ranked", 2, our_runs_ranked, their_runs_ranked, 0, texts, family_count(), family_name, TEXT_SIZES, 0},
+        {"factorization, ranked", 2, our_factorization_ranked, their_factorization_ranked, 0, texts, family_count(), family_name, TEXT_SIZES, 0},
+        {"suffix table, ranked", 2, our_suffix_table_ranked, their_suffix_table_ranked, 0, texts, family_count(), family_name, TEXT_SIZES, 0},
+        {"left forest, ranked", 2, our_left_forest_ranked, their_left_forest_ranked, 0, texts, family_count(), family_name, TEXT_SIZES, 0},
         {"right forest", 0, our_right_forest, their_right_forest, 0, arrays, family_count() + 4, array_name, TEXT_SIZES, 2.5},
         {"reconstruct", 0, our_reconstruct, their_reconstruct, 0, arrays, family_count() + 4, array_name, TEXT_SIZES, 2.5},
         {"FASTA reader", 0, our_reader, their_reader, 0, records, 4, record_name, {512, 1024, 2048}, 0},
     };
     int count = (int)(sizeof calls / sizeof calls[0]);
     static struct result results[32];
+    fill_ranks();
     printf("best of %d runs, taken in turns%s\n", RUNS, suffix_array_installed() ? "" : "; libdivsufsort is not installed");
     for (int c = 0; c < count; c++) results[c] = table(&calls[c]);
     printf("\ngrowth: the largest of ns a letter at the largest size over that at the smallest\n");
@@ -232,5 +282,11 @@ int main(void) {
         if (calls[c].limit > 0) printf("; %.1f asked for: %s", calls[c].limit, results[c].ratio <= calls[c].limit ? "met" : "not met");
         printf("\n");
     }
+    printf("\nranked: over the call without ranks, on %s at the largest size\n", family_name(0));
+    ranked_over_plain("array of bytes", our_array_ranked, our_array);
+    ranked_over_plain("runs", our_runs_ranked, our_runs);
+    ranked_over_plain("factorization", our_factorization_ranked, our_factorization);
+    ranked_over_plain("suffix table", our_suffix_table_ranked, our_suffix_table);
+    ranked_over_plain("left forest", our_left_forest_ranked, our_left_forest);
     return 0;
 }

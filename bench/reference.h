@@ -11,6 +11,12 @@ size_t reference_runs(const uint8_t *x, size_t n, uint32_t *work, uint32_t *list
 size_t reference_factorization(const uint8_t *x, size_t n, uint32_t *out);
 void reference_suffix_table(const uint8_t *x, size_t n, uint32_t *out);
 void reference_left_forest(const uint8_t *x, size_t n, uint32_t *first, uint32_t *past);
+/* The same by a table of 256 ranks. */
+void reference_array_u8_ranked(const uint8_t *ranks, const uint8_t *x, size_t n, uint32_t order, uint32_t *L);
+size_t reference_runs_ranked(const uint8_t *ranks, const uint8_t *x, size_t n, uint32_t *work, uint32_t *list);
+size_t reference_factorization_ranked(const uint8_t *ranks, const uint8_t *x, size_t n, uint32_t *out);
+void reference_suffix_table_ranked(const uint8_t *ranks, const uint8_t *x, size_t n, uint32_t *out);
+void reference_left_forest_ranked(const uint8_t *ranks, const uint8_t *x, size_t n, uint32_t *first, uint32_t *past);
 /* 0, or the number of the refusal and its position. */
 uint32_t reference_right_forest(const uint32_t *array, size_t n, uint32_t *first, uint32_t *past, size_t *at);
 uint32_t reference_reconstruct(const uint32_t *array, size_t n, uint32_t *text, size_t *at);

@@ -1,12 +1,13 @@
 /* The algorithms of the factor list, the suffix table and the left forest in C, to compare speed with. */
 #include "reference.h"
+#include "reference_letters.h"
 
-size_t reference_factorization(const uint8_t *x, size_t n, uint32_t *out) {
+size_t CALL(factorization)(TABLE const uint8_t *x, size_t n, uint32_t *out) {
     size_t count = 0, start = 0;
     while (start < n) {
         size_t p = 1, e = start + 1;
-        while (e < n && x[e] >= x[e - p]) {
-            if (x[e] > x[e - p]) p = e + 1 - start;
+        while (e < n && LETTER(x, e) >= LETTER(x, e - p)) {
+            if (LETTER(x, e) > LETTER(x, e - p)) p = e + 1 - start;
             e++;
         }
         for (; start + p <= e; start += p) out[count++] = (uint32_t)start;
@@ -14,13 +15,13 @@ size_t reference_factorization(const uint8_t *x, size_t n, uint32_t *out) {
     return count;
 }
 
-void reference_suffix_table(const uint8_t *x, size_t n, uint32_t *out) {
+void CALL(suffix_table)(TABLE const uint8_t *x, size_t n, uint32_t *out) {
     size_t start = 0;
     while (start < n) {
         size_t p = 1, e = start + 1;
         out[start] = 1;
-        while (e < n && x[e] >= x[e - p]) {
-            if (x[e] > x[e - p]) {
+        while (e < n && LETTER(x, e) >= LETTER(x, e - p)) {
+            if (LETTER(x, e) > LETTER(x, e - p)) {
                 p = e + 1 - start;
                 out[e] = (uint32_t)p;
             } else
@@ -31,8 +32,8 @@ void reference_suffix_table(const uint8_t *x, size_t n, uint32_t *out) {
     }
 }
 
-void reference_left_forest(const uint8_t *x, size_t n, uint32_t *first, uint32_t *past) {
-    reference_suffix_table(x, n, past);
+void CALL(left_forest)(TABLE const uint8_t *x, size_t n, uint32_t *first, uint32_t *past) {
+    CALL(suffix_table)(RANKS x, n, past);
     size_t last = 0;
     for (size_t e = 0; e < n; e++) {
         first[e] = (uint32_t)last;

@@ -20,7 +20,7 @@ extern "C" {
 /* number 0: accepted, value is the count. Else the refusal's number, and value is the position (0 where none is named):
  *   1  the text or array is empty
  *   2  it is longer than 1,048,576
- *   3  the order number is neither 0 nor 1
+ *   3  the order number is not one that the call takes: 0 and 1, in the ranked calls 0 to 2
  *   4  an output buffer is shorter than needed
  *   5  the work buffer is shorter than 2 n
  *   6  an array's entry is 0; the position is the first entry that is bad by 6 or 7
@@ -34,17 +34,20 @@ extern "C" {
  *  13  there is no letter; the position is the input's length
  *  14  there is a 2,049th letter; the position is that letter's in the input
  *  15  the input is longer than 8,192 bytes; the position is 8192
- * Checks are made in the order 1 to 5, then 6 and 7 in one pass, then 8; for FASTA 4, 15, 9, 10, then 11, 12 and 14 in one pass, 13.
+ *  16  a rank table that is to be used has not 256 entries
+ * Checks are made in the order 1, 2, 3, 16, 4, 5, then 6 and 7 in one pass, then 8; for FASTA 4, 15, 9, 10, then 11, 12 and 14 in one
+ * pass, 13.
  */
 typedef struct {
     uint32_t number;
     uint32_t value;
 } lyndon_answer;
 
-/* Order 0, rising: letters are compared by number. Order 1, falling: the comparison of letters is turned round. In both, a proper
- * prefix is smaller than the longer word. */
+/* Order 0, rising: letters are compared by number. Order 1, falling: the comparison of letters is turned round. Order 2, of the ranked
+ * calls alone: letters are compared by rank, rising. In all, a proper prefix is smaller than the longer word. */
 #define LYNDON_RISING 0u
 #define LYNDON_FALLING 1u
+#define LYNDON_RANKED 2u
 
 /* The Lyndon array: out[i] is the length of the longest Lyndon word that starts at i. Needs n places; the count is n.
  * Refusals 1, 2, 3, 4. */
@@ -78,6 +81,24 @@ lyndon_answer lyndon_right_forest(const uint32_t *array, size_t n, uint32_t *fir
  * whose span holds i, plus n - i - array[i]. Refusals 6, 7 and 8 are given exactly where no text has the array. Needs n places; the
  * count is n. Refusals 1, 2, 4, 6, 7, 8. */
 lyndon_answer lyndon_reconstruct(const uint32_t *array, size_t n, uint32_t *text, size_t text_len);
+
+/* The ranked calls: those above that read a text of bytes, with a rank table of 256 bytes. Letter a has rank table[a], and letters of one
+ * rank count as the same letter. In order 2, answer and content are those of order 0 for the row of ranks, table[text[0]], table[text[1]]
+ * and so on. Orders 0 and 1 do not look at the table, whatever its length: letters rise, or fall, by number. Places and counts are those
+ * of the calls without a table. Refusals 1, 2, 3, 16 (order 2 where table_len is not 256), 4. */
+lyndon_answer lyndon_array_ranked(const uint8_t *text, size_t n, uint32_t order, const uint8_t *table, size_t table_len,
+    uint32_t *out, size_t out_len);
+lyndon_answer lyndon_factorization_ranked(const uint8_t *text, size_t n, uint32_t order, const uint8_t *table, size_t table_len,
+    uint32_t *out, size_t out_len);
+lyndon_answer lyndon_suffix_table_ranked(const uint8_t *text, size_t n, uint32_t order, const uint8_t *table, size_t table_len,
+    uint32_t *out, size_t out_len);
+lyndon_answer lyndon_left_forest_ranked(const uint8_t *text, size_t n, uint32_t order, const uint8_t *table, size_t table_len,
+    uint32_t *first, size_t first_len, uint32_t *past, size_t past_len);
+
+/* All runs where letters of one rank are equal. Takes the table alone; afterwards work holds the Lyndon array rising by rank and then the
+ * one falling by rank. Refusals 1, 2, 16, 4 (list), 5. */
+lyndon_answer lyndon_runs_ranked(const uint8_t *text, size_t n, const uint8_t *table, size_t table_len, uint32_t *work, size_t work_len,
+    uint32_t *list, size_t list_len);
 
 /* The letters of a FASTA input of one record, as capitals: a lower-case letter is the same base, masked, and a to z are written as A to Z.
  * A record is '>', a name of 1 to 60 bytes from 33 to 126 ended by space, tab, CR, LF or the end, the rest of that line, then sequence lines

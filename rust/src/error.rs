@@ -22,7 +22,7 @@ impl fmt::Display for Error {
         match self.number {
             1 => write!(f, "the text or array is empty"),
             2 => write!(f, "the text or array is longer than 1,048,576"),
-            3 => write!(f, "the order is neither 0 (rising) nor 1 (falling)"),
+            3 => write!(f, "the order number is not one that the call takes"),
             4 => write!(f, "an output buffer is shorter than needed"),
             5 => write!(f, "the work buffer is shorter than twice the text"),
             6 => write!(f, "the entry at position {at} is 0"),
@@ -35,6 +35,7 @@ impl fmt::Display for Error {
             13 => write!(f, "the input holds no letter (it ends at byte {at})"),
             14 => write!(f, "byte {at} is a letter past the 2,048 that are read"),
             15 => write!(f, "the input is longer than 8,192 bytes"),
+            16 => write!(f, "the rank table does not have 256 entries"),
             _ => write!(f, "refused at position {at}"),
         }?;
         write!(f, " (refusal {})", self.number)

@@ -4,6 +4,9 @@
 //! one, named `.._into`, that writes into buffers of the caller and returns the count. The second form asks for buffers of the lengths that
 //! its description names; places past those written keep their content, and a call that refuses changes no buffer.
 //!
+//! The calls on texts of bytes have a further form, named `.._ranked`, that can compare letters by ranks of the caller's own: where an order
+//! is asked for, give an [`Order`] or `&`[`Ranks`].
+//!
 //! The functions behind these wrappers are proved to do what the definitions say, for every input. The wrappers themselves are plain Rust.
 //!
 //! ```
@@ -24,8 +27,10 @@
 mod error;
 #[allow(unsafe_code)]
 mod ffi;
+mod ranks;
 
 pub use error::Error;
+pub use ranks::{GroupError, LetterOrder, Ranks};
 
 /// The largest number of letters of a text, or of entries of an array.
 pub const MAX_LENGTH: usize = 1_048_576;
@@ -33,9 +38,9 @@ pub const MAX_LENGTH: usize = 1_048_576;
 pub const MAX_INPUT: usize = 8_192;
 /// The largest number of letters that [`read_fasta`] reads, and the length of the buffer that [`read_fasta_into`] asks for.
 pub const MAX_LETTERS: usize = 2_048;
-/// The numbers that the list of [`runs_into`] needs for each letter of the text.
+/// The numbers that the list of [`runs_into`] and [`runs_ranked_into`] needs for each letter of the text.
 pub const LIST_PLACES: usize = 6;
-/// The numbers that the work buffer of [`runs_into`] needs for each letter of the text.
+/// The numbers that the work buffer of [`runs_into`] and [`runs_ranked_into`] needs for each letter of the text.
 pub const WORK_PLACES: usize = 2;
 
 /// How two letters compare. In both orders a proper prefix is smaller than the longer word.
@@ -115,6 +120,12 @@ fn forest(n: usize, call: impl FnOnce(&mut [u32], &mut [u32]) -> Result<usize, E
     let (mut first, mut past) = (room(n, 1), room(n, 1));
     call(&mut first, &mut past)?;
     Ok(Forest { first, past })
+}
+
+fn all_runs(n: usize, call: impl FnOnce(&mut [u32], &mut [u32]) -> Result<usize, Error>) -> Result<Vec<Run>, Error> {
+    let (mut work, mut list) = (room(n, WORK_PLACES), room(n, LIST_PLACES));
+    let count = call(&mut work, &mut list)?;
+    Ok(listed(&list[..3 * count]).collect())
 }
 
 /// The Lyndon array of a text of bytes: entry `i` is the length of the longest Lyndon word that starts at `i`.
@@ -322,9 +333,7 @@ pub fn reconstruct_into(array: &[u32], text: &mut [u32]) -> Result<usize, Error>
 /// # Ok::<(), lyndon::Error>(())
 /// ```
 pub fn runs(text: &[u8]) -> Result<Vec<Run>, Error> {
-    let (mut work, mut list) = (room(text.len(), WORK_PLACES), room(text.len(), LIST_PLACES));
-    let count = runs_into(text, &mut work, &mut list)?;
-    Ok(listed(&list[..3 * count]).collect())
+    all_runs(text.len(), |work, list| runs_into(text, work, list))
 }
 
 /// [`runs`] into a list of at least `6 n` places: start, last position and period of each run; [`listed`] reads them. The count is the
@@ -353,6 +362,146 @@ pub fn runs_into(text: &[u8], work: &mut [u32], list: &mut [u32]) -> Result<usiz
 /// ```
 pub fn listed(numbers: &[u32]) -> impl Iterator<Item = Run> + '_ {
     numbers.chunks_exact(3).map(|run| Run { start: run[0], last: run[1], period: run[2] })
+}
+
+/// [`lyndon_array`] with letters compared in an [`Order`] or by [`Ranks`]. By ranks it is the rising Lyndon array of the row of ranks.
+///
+/// # Errors
+///
+/// Refuses an empty text (refusal 1) and one of more than [`MAX_LENGTH`] letters (2). Refusals 3 (order number) and 16 (length of the table)
+/// cannot be met, here and in the other ranked calls: the types allow only orders that exist and tables of 256 ranks.
+///
+/// ```
+/// use lyndon::{lyndon_array_ranked, Order, Ranks};
+/// let ranks = Ranks::from_groups(&["Tt", "Gg", "Cc", "Aa"])?;
+/// assert_eq!(lyndon_array_ranked(b"TaTAt", &ranks)?, [2, 1, 2, 1, 1]);
+/// assert_eq!(lyndon_array_ranked(b"TaTAt", Order::Rising)?, [2, 1, 1, 2, 1]);
+/// # Ok::<(), Box<dyn std::error::Error>>(())
+/// ```
+pub fn lyndon_array_ranked<'a>(text: &[u8], order: impl Into<LetterOrder<'a>>) -> Result<Vec<u32>, Error> {
+    filled(text.len(), |out| lyndon_array_ranked_into(text, order, out))
+}
+
+/// [`lyndon_array_ranked`] into a buffer of at least `n` places. The count is `n`.
+///
+/// # Errors
+///
+/// Those of [`lyndon_array_into`].
+pub fn lyndon_array_ranked_into<'a>(text: &[u8], order: impl Into<LetterOrder<'a>>, out: &mut [u32]) -> Result<usize, Error> {
+    let order = order.into();
+    counted(ffi::array_ranked(text, order.number(), order.table(), out))
+}
+
+/// [`factorization`] with letters compared in an [`Order`] or by [`Ranks`]. By ranks the starts are those of the row of ranks.
+///
+/// # Errors
+///
+/// Those of [`factorization`].
+///
+/// ```
+/// use lyndon::{factorization_ranked, Order, Ranks};
+/// let ranks = Ranks::from_groups(&["Tt", "Gg", "Cc", "Aa"])?;
+/// assert_eq!(factorization_ranked(b"TaTAt", &ranks)?, [0, 2, 4]);
+/// assert_eq!(factorization_ranked(b"TaTAt", Order::Falling)?, [0, 1, 4]);
+/// # Ok::<(), Box<dyn std::error::Error>>(())
+/// ```
+pub fn factorization_ranked<'a>(text: &[u8], order: impl Into<LetterOrder<'a>>) -> Result<Vec<u32>, Error> {
+    filled(text.len(), |out| factorization_ranked_into(text, order, out))
+}
+
+/// [`factorization_ranked`] into a buffer of at least `n` places. The count is the number of factors.
+///
+/// # Errors
+///
+/// Those of [`factorization_into`].
+pub fn factorization_ranked_into<'a>(text: &[u8], order: impl Into<LetterOrder<'a>>, out: &mut [u32]) -> Result<usize, Error> {
+    let order = order.into();
+    counted(ffi::factorization_ranked(text, order.number(), order.table(), out))
+}
+
+/// [`suffix_table`] with letters compared in an [`Order`] or by [`Ranks`]. By ranks it is the suffix table of the row of ranks.
+///
+/// # Errors
+///
+/// Those of [`suffix_table`].
+///
+/// ```
+/// use lyndon::{suffix_table_ranked, Ranks};
+/// let ranks = Ranks::from_groups(&["Tt", "Gg", "Cc", "Aa"])?;
+/// assert_eq!(suffix_table_ranked(b"TaTAt", &ranks)?, [1, 2, 1, 2, 1]);
+/// # Ok::<(), Box<dyn std::error::Error>>(())
+/// ```
+pub fn suffix_table_ranked<'a>(text: &[u8], order: impl Into<LetterOrder<'a>>) -> Result<Vec<u32>, Error> {
+    filled(text.len(), |out| suffix_table_ranked_into(text, order, out))
+}
+
+/// [`suffix_table_ranked`] into a buffer of at least `n` places. The count is `n`.
+///
+/// # Errors
+///
+/// Those of [`suffix_table_into`].
+pub fn suffix_table_ranked_into<'a>(text: &[u8], order: impl Into<LetterOrder<'a>>, out: &mut [u32]) -> Result<usize, Error> {
+    let order = order.into();
+    counted(ffi::suffix_table_ranked(text, order.number(), order.table(), out))
+}
+
+/// [`left_forest`] with letters compared in an [`Order`] or by [`Ranks`]. By ranks it is the left forest of the row of ranks.
+///
+/// # Errors
+///
+/// Those of [`left_forest`].
+///
+/// ```
+/// use lyndon::{left_forest_ranked, Ranks};
+/// let forest = left_forest_ranked(b"bBaA", &Ranks::from_groups(&["Bb", "Aa"])?)?;
+/// assert_eq!(forest.first, [0, 0, 1, 0]);
+/// assert_eq!(forest.past, [0, 3, 3, 4]);
+/// # Ok::<(), Box<dyn std::error::Error>>(())
+/// ```
+pub fn left_forest_ranked<'a>(text: &[u8], order: impl Into<LetterOrder<'a>>) -> Result<Forest, Error> {
+    forest(text.len(), |first, past| left_forest_ranked_into(text, order, first, past))
+}
+
+/// [`left_forest_ranked`] into two buffers of at least `n` places each. The count is `n`.
+///
+/// # Errors
+///
+/// Those of [`left_forest_into`].
+pub fn left_forest_ranked_into<'a>(
+    text: &[u8],
+    order: impl Into<LetterOrder<'a>>,
+    first: &mut [u32],
+    past: &mut [u32],
+) -> Result<usize, Error> {
+    let order = order.into();
+    counted(ffi::left_forest_ranked(text, order.number(), order.table(), first, past))
+}
+
+/// [`runs`] where letters of one rank are equal: those of the row of ranks.
+///
+/// # Errors
+///
+/// Those of [`runs`].
+///
+/// ```
+/// use lyndon::{runs_ranked, Ranks, Run};
+/// // Purines and pyrimidines.
+/// let ranks = Ranks::from_groups(&["AGag", "CTct"])?;
+/// assert_eq!(runs_ranked(b"ACgt", &ranks)?, [Run { start: 0, last: 3, period: 2 }]);
+/// # Ok::<(), Box<dyn std::error::Error>>(())
+/// ```
+pub fn runs_ranked(text: &[u8], ranks: &Ranks) -> Result<Vec<Run>, Error> {
+    all_runs(text.len(), |work, list| runs_ranked_into(text, ranks, work, list))
+}
+
+/// [`runs_ranked`] into a list and a work buffer as [`runs_into`] has them. Afterwards the work buffer holds the Lyndon array rising by rank
+/// and then the one falling by rank.
+///
+/// # Errors
+///
+/// Those of [`runs_into`].
+pub fn runs_ranked_into(text: &[u8], ranks: &Ranks, work: &mut [u32], list: &mut [u32]) -> Result<usize, Error> {
+    counted(ffi::runs_ranked(text, ranks.as_bytes(), work, list))
 }
 
 /// The letters of a FASTA input of one record, as capitals: a lower-case letter is the same base, masked.

@@ -91,10 +91,42 @@ fn runs() {
     assert_eq!(count, 120);
 }
 
+/// Document 02's cases of a call.
+fn later(call: &str) -> impl Iterator<Item = Json> + '_ {
+    LATER.lines().map(Json::read).filter(move |case| case.get("call").unwrap().text() == call)
+}
+
 /// What document 02's cases of a call want, by their inputs.
 fn wanted_later(call: &str) -> HashMap<Vec<u8>, Json> {
-    let cases = LATER.lines().map(Json::read).filter(|case| case.get("call").unwrap().text() == call);
-    cases.map(|case| (case.get("input").unwrap().bytes(), case.get("want").unwrap().clone())).collect()
+    later(call).map(|case| (case.get("input").unwrap().bytes(), case.get("want").unwrap().clone())).collect()
+}
+
+/// The ranked calls (document 02, E1). A case holds all five, with ample buffers. Order numbers do not concern the runs.
+#[test]
+fn ranked() {
+    let mut count = 0;
+    for case in later("e1") {
+        let (text, table, want) = (case.get("text").unwrap().bytes(), case.get("table").unwrap().bytes(), case.get("want").unwrap());
+        let order = case.get("order").unwrap().number() as u32;
+        let n = text.len();
+        let what = format!("case {count} of e1");
+        let list = |name: &str| numbers(want, name).unwrap_or_default();
+        let answer = |count: usize| if want.get("no").is_some() { wanted(want) } else { Ok(count) };
+        let (mut first, mut past) = (vec![0; n + 5], vec![0; n + 4]);
+        for (call, name) in common::RANKED_CALLS.iter().zip(["array", "factors", "prefix"]) {
+            let got = call(&text, order, &table, &mut first);
+            common::compare(&what, got, &[&first], answer(list(name).len()), &[Some(&list(name))]);
+        }
+        let got = common::left_forest_ranked(&text, order, &table, &mut first, &mut past);
+        common::compare(&what, got, &[&first, &past], answer(n), &[Some(&list("first")), Some(&list("past"))]);
+        if order <= 2 {
+            let (mut work, mut runs) = (vec![0; 2 * n + 5], vec![0; 6 * n + 5]);
+            let got = common::runs_ranked(&text, &table, &mut work, &mut runs);
+            common::compare(&what, got, &[&work, &runs], answer(list("runs").len() / 3), &[Some(&list("work")), Some(&list("runs"))]);
+        }
+        count += 1;
+    }
+    assert_eq!(count, 27);
 }
 
 /// The letters are capitals (document 02, E2): those of document 02's case of the same input.

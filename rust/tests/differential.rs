@@ -4,7 +4,8 @@ mod definitions;
 mod faster;
 
 use common::Numbers;
-use definitions::Expected;
+use definitions::{rising_answer as rising, Expected};
+use faster::Lists;
 use lyndon::Error;
 
 /// Buffers a little longer than needed, so that what lies past the places written is seen.
@@ -33,20 +34,22 @@ fn check_array32(x: &[u32], order: u32, places: usize) {
 fn check_factors(x: &[u8], places: usize) {
     let mut out = room(places);
     let got = common::factors(x, &mut out);
-    common::compare_all(&format!("factors of {x:?}, {places} places"), got, &[&out], &definitions::factors_answer(x, places));
+    common::compare_all(&format!("factors of {x:?}, {places} places"), got, &[&out], &rising(x, &[places], definitions::factors_accepted));
 }
 
 fn check_suffix_table(x: &[u8], places: usize) {
     let mut out = room(places);
     let got = common::suffix_table(x, &mut out);
-    common::compare_all(&format!("suffix table of {x:?}, {places} places"), got, &[&out], &definitions::suffix_table_answer(x, places));
+    let want = rising(x, &[places], definitions::suffix_table_accepted);
+    common::compare_all(&format!("suffix table of {x:?}, {places} places"), got, &[&out], &want);
 }
 
 fn check_left_forest(x: &[u8], first_places: usize, past_places: usize) {
     let (mut first, mut past) = (room(first_places), room(past_places));
     let got = common::left_forest(x, &mut first, &mut past);
     let what = format!("left forest of {x:?}, {first_places} and {past_places} places");
-    common::compare_all(&what, got, &[&first, &past], &definitions::left_forest_answer(x, first_places, past_places));
+    let want = rising(x, &[first_places, past_places], definitions::left_forest_accepted);
+    common::compare_all(&what, got, &[&first, &past], &want);
 }
 
 fn check_runs(x: &[u8], work_places: usize, list_places: usize) {
@@ -74,6 +77,34 @@ fn check_reader(input: &[u8], places: usize) {
     let got = common::read_fasta(input, &mut letters);
     let what = format!("reading {:?}, {places} places", String::from_utf8_lossy(input));
     common::compare_all(&what, got, &[&letters], &definitions::read_fasta(input, places));
+}
+
+/// The ranked calls that take an order; `past_places` is the length of the left forest's second buffer.
+fn check_ranked(x: &[u8], order: u32, table: &[u8], places: usize, past_places: usize) {
+    let what =
+        format!("{} letters {:?}.., order {order}, table {table:?}, {places} and {past_places} places", x.len(), &x[..x.len().min(60)]);
+    let accepted = [definitions::array_accepted::<u8>, definitions::factors_accepted, definitions::suffix_table_accepted];
+    let (mut first, mut past) = (room(places), room(past_places));
+    for (call, accepted) in common::RANKED_CALLS.iter().zip(accepted) {
+        let got = call(x, order, table, &mut first);
+        common::compare_all(&what, got, &[&first], &definitions::ranked_answer(x, order, table, &[places], accepted));
+    }
+    let got = common::left_forest_ranked(x, order, table, &mut first, &mut past);
+    let want = definitions::ranked_answer(x, order, table, &[places, past_places], definitions::left_forest_accepted);
+    common::compare_all(&what, got, &[&first, &past], &want);
+}
+
+fn check_runs_ranked(x: &[u8], table: &[u8], work_places: usize, list_places: usize) {
+    let (mut work, mut list) = (room(work_places), room(list_places));
+    let got = common::runs_ranked(x, table, &mut work, &mut list);
+    let what = format!("runs of {} letters, table {table:?}, {work_places} and {list_places} places", x.len());
+    common::compare_all(&what, got, &[&work, &list], &definitions::runs_ranked_answer(x, table, work_places, list_places));
+}
+
+/// Every ranked call that looks at a table.
+fn check_by_table(x: &[u8], table: &[u8]) {
+    check_ranked(x, 2, table, x.len() + SPARE, x.len() + 1);
+    check_runs_ranked(x, table, 2 * x.len() + SPARE, 6 * x.len() + SPARE);
 }
 
 /// Every call that takes a text of bytes, and those that take its array.
@@ -276,6 +307,93 @@ fn two_faults_at_once() {
     }
 }
 
+// Ranks
+
+/// Tables of several kinds: by number, turned round, any permutation, few ranks, one rank, any ranks.
+fn rank_tables(numbers: &mut Numbers) -> Vec<Vec<u8>> {
+    let by_number: Vec<u8> = (0..=255).collect();
+    let turned = by_number.iter().rev().copied().collect();
+    let any_rank = numbers.pick(&by_number);
+    vec![
+        turned,
+        numbers.shuffled_bytes(),
+        numbers.text(&[3, 4], 256),
+        numbers.text(&[0, 127, 128, 255], 256),
+        vec![any_rank; 256],
+        numbers.text(&by_number, 256),
+        by_number,
+    ]
+}
+
+#[test]
+fn random_texts_by_rank() {
+    let mut numbers = Numbers::new(15);
+    let bytes: Vec<u8> = (0..=255).collect();
+    for round in 0..1000 {
+        let n = 1 + numbers.below(40);
+        let x = match round % 4 {
+            0 => numbers.text(b"ab", n),
+            1 => numbers.text(b"ACGTacgtN", n),
+            2 => numbers.text(&bytes, n),
+            _ => common::repetitive(&mut numbers, n),
+        };
+        for table in rank_tables(&mut numbers) {
+            check_by_table(&x, &table);
+        }
+    }
+}
+
+/// Three letters, and all ways to rank them.
+#[test]
+fn all_short_texts_by_all_ranks() {
+    for ranks in all_texts(&[0, 7, 255], 3) {
+        let mut table = vec![7; 256];
+        table[97..100].copy_from_slice(&ranks);
+        for n in 1..=5 {
+            all_texts(b"abc", n).for_each(|x| check_by_table(&x, &table));
+        }
+    }
+}
+
+#[test]
+fn structured_texts_by_rank() {
+    let mut numbers = Numbers::new(16);
+    for n in [1, 2, 5, 13, 34, 55] {
+        for (_, x) in common::families(n) {
+            for input in common::ranked_inputs(&mut numbers, &x) {
+                check_ranked(&input.text, input.order, &input.table, n, n + SPARE);
+                check_ranked(&x, input.order, &input.table, n + SPARE, n);
+            }
+        }
+    }
+}
+
+/// Every order with every length of table and buffers, short, exact and longer: all faults, each alone and together with the others.
+#[test]
+fn faults_of_ranked_calls() {
+    let mut numbers = Numbers::new(17);
+    let table = numbers.text(&[0, 1], 257);
+    for n in [0, 1, 6, lyndon::MAX_LENGTH + 1] {
+        let x = numbers.text(b"abc", n);
+        let lengths = |full: usize| match n {
+            0..=6 => vec![0, full.saturating_sub(1), full, full + 1],
+            _ => vec![0, full],
+        };
+        for entries in [0, 255, 256, 257] {
+            for (order, places) in pairs(&[0, 1, 2, 3, u32::MAX], &lengths(n)) {
+                lengths(n).into_iter().for_each(|past_places| check_ranked(&x, order, &table[..entries], places, past_places));
+            }
+            for (work, list) in pairs(&lengths(2 * n), &lengths(6 * n)) {
+                check_runs_ranked(&x, &table[..entries], work, list);
+            }
+        }
+    }
+}
+
+fn pairs<A: Copy, B: Copy>(one: &[A], two: &[B]) -> Vec<(A, B)> {
+    one.iter().flat_map(|&a| two.iter().map(move |&b| (a, b))).collect()
+}
+
 // The reader
 
 fn valid_input(numbers: &mut Numbers) -> Vec<u8> {
@@ -461,31 +579,43 @@ fn letters_in_the_other_case() {
 fn check_long(name: &str, x: &[u8], runs: fn(&[u8]) -> Vec<u32>) {
     let n = x.len();
     let mut out = room(n + SPARE);
-    let arrays: Vec<Vec<u32>> = [0, 1].iter().map(|&order| faster::array(order, x)).collect();
+    let lists = Lists::of(x, runs);
     let letters: Vec<u32> = x.iter().map(|&l| u32::from(l) << 24 | 7).collect();
     for order in [0, 1] {
-        let want = &arrays[order as usize];
+        let want = &lists.arrays[order as usize];
         let got = common::array8(x, order, &mut out);
         common::compare(&format!("array, {name}"), got, &[&out], Ok(n), &[Some(want)]);
         let got = common::array32(&letters, order, &mut out);
         common::compare(&format!("array of numbers, {name}"), got, &[&out], Ok(n), &[Some(want)]);
     }
-    let starts = faster::factors(x);
     let got = common::factors(x, &mut out);
-    common::compare(&format!("factors, {name}"), got, &[&out], Ok(starts.len()), &[Some(&starts)]);
-    let (table, first, past) = faster::suffix_table_and_left_forest(x);
+    common::compare(&format!("factors, {name}"), got, &[&out], Ok(lists.factors.len()), &[Some(&lists.factors)]);
     let got = common::suffix_table(x, &mut out);
-    common::compare(&format!("suffix table, {name}"), got, &[&out], Ok(n), &[Some(&table)]);
-    let (mut out_first, mut out_past) = (room(n + SPARE), room(n));
-    let got = common::left_forest(x, &mut out_first, &mut out_past);
-    common::compare(&format!("left forest, {name}"), got, &[&out_first, &out_past], Ok(n), &[Some(&first), Some(&past)]);
-    for a in &arrays {
+    common::compare(&format!("suffix table, {name}"), got, &[&out], Ok(n), &[Some(&lists.suffix_table)]);
+    let (mut first, mut past) = (room(n + SPARE), room(n));
+    let got = common::left_forest(x, &mut first, &mut past);
+    common::compare(&format!("left forest, {name}"), got, &[&first, &past], Ok(n), &[Some(&lists.first), Some(&lists.past)]);
+    for a in &lists.arrays {
         check_long_array(name, a);
     }
-    let want = runs(x);
     let (mut work, mut list) = (room(2 * n + SPARE), room(6 * n + SPARE));
     let got = common::runs(x, &mut work, &mut list);
-    common::compare(&format!("runs, {name}"), got, &[&work, &list], Ok(want.len() / 3), &[Some(&arrays.concat()), Some(&want)]);
+    let (count, arrays) = (lists.runs.len() / 3, lists.arrays.concat());
+    common::compare(&format!("runs, {name}"), got, &[&work, &list], Ok(count), &[Some(&arrays), Some(&lists.runs)]);
+
+    for input in common::ranked_inputs(&mut Numbers::new(n as u64), x) {
+        let what = format!("ranked, order {}, {name}", input.order);
+        for (call, want) in common::RANKED_CALLS.iter().zip(lists.ranked()) {
+            let got = call(&input.text, input.order, &input.table, &mut out);
+            common::compare(&what, got, &[&out], Ok(want.len()), &[Some(want)]);
+        }
+        let got = common::left_forest_ranked(&input.text, input.order, &input.table, &mut first, &mut past);
+        common::compare(&what, got, &[&first, &past], Ok(n), &[Some(&lists.first), Some(&lists.past)]);
+        if input.order == 2 {
+            let got = common::runs_ranked(&input.text, &input.table, &mut work, &mut list);
+            common::compare(&what, got, &[&work, &list], Ok(count), &[Some(&arrays), Some(&lists.runs)]);
+        }
+    }
 }
 
 /// The calls that take an array, held to other methods.
@@ -515,9 +645,9 @@ fn other_methods_agree_with_the_definitions() {
         for order in [0, 1] {
             assert_eq!(faster::array(order, &x), definitions::array(order, &x));
         }
-        assert_eq!(faster::factors(&x), definitions::factors(&x));
-        let (first, past) = definitions::left_forest(&x);
-        assert_eq!(faster::suffix_table_and_left_forest(&x), (definitions::suffix_table(&x), first, past));
+        assert_eq!(faster::factors(&x), definitions::factors(0, &x));
+        let (first, past) = definitions::left_forest(0, &x);
+        assert_eq!(faster::suffix_table_and_left_forest(&x), (definitions::suffix_table(0, &x), first, past));
         assert_eq!(faster::runs(&x), definitions::runs(&x));
         assert_eq!(faster::runs_by_extensions(&x), definitions::runs(&x));
         let a = definitions::array(0, &x);
@@ -656,5 +786,38 @@ fn forms_that_allocate() {
         let mut letters = vec![0; 2048];
         let written = lyndon::read_fasta_into(&input, &mut letters).map(|count| letters[..count].to_vec());
         assert_eq!(lyndon::read_fasta(&input), written);
+    }
+}
+
+/// The ranked forms of the crate give what the C interface gives.
+#[test]
+fn ranked_forms_that_allocate() {
+    use lyndon::{LetterOrder, Order, Ranks};
+    let mut numbers = Numbers::new(18);
+    for _ in 0..100 {
+        let n = numbers.below(30);
+        let x = numbers.text(b"abc", n);
+        for table in rank_tables(&mut numbers) {
+            let ranks = Ranks::new(table[..].try_into().unwrap());
+            for order in [Order::Rising.into(), Order::Falling.into(), LetterOrder::from(&ranks)] {
+                let written = common::RANKED_CALLS.map(|call| {
+                    let mut out = room(n);
+                    call(&x, order.number(), &table, &mut out).map(|count| out[..count].to_vec())
+                });
+                let forms = [
+                    lyndon::lyndon_array_ranked(&x, order),
+                    lyndon::factorization_ranked(&x, order),
+                    lyndon::suffix_table_ranked(&x, order),
+                ];
+                assert_eq!(forms, written);
+                let (mut first, mut past) = (room(n), room(n));
+                let written = common::left_forest_ranked(&x, order.number(), &table, &mut first, &mut past).map(|_| (first, past));
+                assert_eq!(lyndon::left_forest_ranked(&x, order).map(|f| (f.first, f.past)), written);
+            }
+            let (mut work, mut list) = (room(2 * n), room(6 * n));
+            let written = common::runs_ranked(&x, &table, &mut work, &mut list);
+            let written = written.map(|count| lyndon::listed(&list[..3 * count]).collect::<Vec<_>>());
+            assert_eq!(lyndon::runs_ranked(&x, &ranks), written);
+        }
     }
 }

@@ -4,7 +4,8 @@ mod common;
 mod definitions;
 mod faster;
 
-use common::Numbers;
+use common::{Numbers, RankedInput};
+use faster::Lists;
 use lyndon::Error;
 use std::ffi::c_void;
 
@@ -81,31 +82,32 @@ fn check_text(x: &[u8], side: Side) {
     let wide: Vec<u32> = x.iter().map(|&l| u32::from(l)).collect();
     let mut letters = Guarded::new(&wide, side);
     let short = Err(Error { number: if n == 0 { 1 } else { 4 }, position: 0 });
-    let arrays = if n == 0 { vec![vec![], vec![]] } else { vec![faster::array(0, x), faster::array(1, x)] };
+    let lists = Lists::of(x, faster::runs);
     let full = |count: usize| if n == 0 { Err(Error { number: 1, position: 0 }) } else { Ok(count) };
 
     for order in [0, 1] {
         let mut out = room(n, side);
         let got = common::array8(text.slice(), order, out.slice());
-        common::compare(&what, got, &[out.slice()], full(n), &[Some(&arrays[order as usize])]);
+        common::compare(&what, got, &[out.slice()], full(n), &[Some(&lists.arrays[order as usize])]);
         let got = common::array32(letters.slice(), order, out.slice());
-        common::compare(&what, got, &[out.slice()], full(n), &[Some(&arrays[order as usize])]);
+        common::compare(&what, got, &[out.slice()], full(n), &[Some(&lists.arrays[order as usize])]);
     }
     let mut out = room(n, side);
-    let starts = if n == 0 { vec![] } else { faster::factors(x) };
     let got = common::factors(text.slice(), out.slice());
-    common::compare(&what, got, &[out.slice()], full(starts.len()), &[Some(&starts)]);
-    let (table, first, past) = if n == 0 { Default::default() } else { faster::suffix_table_and_left_forest(x) };
+    common::compare(&what, got, &[out.slice()], full(lists.factors.len()), &[Some(&lists.factors)]);
     let got = common::suffix_table(text.slice(), out.slice());
-    common::compare(&what, got, &[out.slice()], full(n), &[Some(&table)]);
+    common::compare(&what, got, &[out.slice()], full(n), &[Some(&lists.suffix_table)]);
     let mut second = room(n, side);
     let got = common::left_forest(text.slice(), out.slice(), second.slice());
-    common::compare(&what, got, &[out.slice(), second.slice()], full(n), &[Some(&first), Some(&past)]);
+    common::compare(&what, got, &[out.slice(), second.slice()], full(n), &[Some(&lists.first), Some(&lists.past)]);
     let (mut work, mut list) = (room(2 * n, side), room(6 * n, side));
-    let runs = faster::runs(x);
     let got = common::runs(text.slice(), work.slice(), list.slice());
-    common::compare(&what, got, &[work.slice(), list.slice()], full(runs.len() / 3), &[Some(&arrays.concat()), Some(&runs)]);
-    for entries in &arrays {
+    let (count, arrays) = (lists.runs.len() / 3, lists.arrays.concat());
+    common::compare(&what, got, &[work.slice(), list.slice()], full(count), &[Some(&arrays), Some(&lists.runs)]);
+    for input in common::ranked_inputs(&mut Numbers::new(n as u64), x) {
+        check_ranked(&input, &lists, side);
+    }
+    for entries in &lists.arrays {
         check_array(entries, side);
     }
 
@@ -129,6 +131,45 @@ fn check_text(x: &[u8], side: Side) {
         let mut cut_work = room(2 * n - 1, side);
         let got = common::runs(text.slice(), cut_work.slice(), list.slice());
         common::compare(&what, got, &[cut_work.slice(), list.slice()], Err(Error { number: 5, position: 0 }), &[]);
+    }
+}
+
+/// The ranked calls, the table guarded too: with buffers exactly as long as needed, each one place short, and with other lengths of the table,
+/// none and one entry short of 256.
+fn check_ranked(input: &RankedInput, lists: &Lists, side: Side) {
+    let (n, order) = (input.text.len(), input.order);
+    let what = format!("guarded, {side:?}, {n} letters, order {order}");
+    let mut text = Guarded::new(&input.text, side);
+    for entries in [input.table.len(), 0, 255.min(input.table.len())] {
+        let mut table = Guarded::new(&input.table[..entries], side);
+        // Output buffers of that many places less than needed.
+        for missing in [0, usize::from(n > 0)] {
+            let answer = |count: usize, short: u32| match (n, order == 2 && entries != 256, missing) {
+                (0, ..) => Err(Error { number: 1, position: 0 }),
+                (_, true, _) => Err(Error { number: 16, position: 0 }),
+                (.., 0) => Ok(count),
+                _ => Err(Error { number: short, position: 0 }),
+            };
+            let (mut cut, mut out) = (room(n - missing, side), room(n, side));
+            for (call, want) in common::RANKED_CALLS.iter().zip(lists.ranked()) {
+                let got = call(text.slice(), order, table.slice(), cut.slice());
+                common::compare(&what, got, &[cut.slice()], answer(want.len(), 4), &[Some(want)]);
+            }
+            let (first, past) = (Some(&lists.first[..]), Some(&lists.past[..]));
+            let got = common::left_forest_ranked(text.slice(), order, table.slice(), cut.slice(), out.slice());
+            common::compare(&what, got, &[cut.slice(), out.slice()], answer(n, 4), &[first, past]);
+            let got = common::left_forest_ranked(text.slice(), order, table.slice(), out.slice(), cut.slice());
+            common::compare(&what, got, &[out.slice(), cut.slice()], answer(n, 4), &[first, past]);
+            if order == 2 {
+                let (count, arrays) = (lists.runs.len() / 3, lists.arrays.concat());
+                for (work_missing, list_missing, short) in [(0, missing, 4), (missing, 0, 5)] {
+                    let (mut work, mut list) = (room(2 * n - work_missing, side), room(6 * n - list_missing, side));
+                    let got = common::runs_ranked(text.slice(), table.slice(), work.slice(), list.slice());
+                    let written = [Some(&arrays[..]), Some(&lists.runs[..])];
+                    common::compare(&what, got, &[work.slice(), list.slice()], answer(count, short), &written);
+                }
+            }
+        }
     }
 }
 

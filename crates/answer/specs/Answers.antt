@@ -10,7 +10,7 @@ use Rattle.answer.specs.declared.Answer.{Answer}
 use Rattle.answer.specs.declared.Outcome.{Outcome}
 use Rattle.answer.specs.declared.Outcome.the-variants.{Accepted, Refused}
 use Rattle.answer.specs.declared.Reason.{Reason}
-use Rattle.answer.specs.declared.Reason.the-variants.{EmptyText, TextTooLong, UnknownOrder, ShortOutput, ShortWork, ZeroEntry, LongEntry, CrossingSpans, NoHeader, BadName, UnfitByte, SecondRecord, NoLetters, TooManyLetters, FileTooLong}
+use Rattle.answer.specs.declared.Reason.the-variants.{EmptyText, TextTooLong, UnknownOrder, ShortOutput, ShortWork, ZeroEntry, LongEntry, CrossingSpans, NoHeader, BadName, UnfitByte, SecondRecord, NoLetters, TooManyLetters, FileTooLong, WrongTable}
 use Rattle.answer.specs.Reasons.{numberOf}
 
 -- Accepted, with its count.
@@ -47,9 +47,9 @@ value a = valueIn (a .outcome)
 abbrev pub reasons : List Reason
 reasons =
     EmptyText ∷ TextTooLong ∷ UnknownOrder ∷ ShortOutput ∷ ShortWork ∷ ZeroEntry ∷ LongEntry ∷ CrossingSpans ∷ NoHeader ∷ BadName ∷ UnfitByte ∷ SecondRecord ∷
-    NoLetters ∷ TooManyLetters ∷ FileTooLong ∷ []
+    NoLetters ∷ TooManyLetters ∷ FileTooLong ∷ WrongTable ∷ []
 
--- The answer with this number and value. Numbers above 15 belong to no answer.
+-- The answer with this number and value. Numbers above 16 belong to no answer.
 abbrev pub answerWith : ℕ → ℕ → Answer
 answerWith zero v = acceptedWith v
 answerWith (suc k) v = refusedFor (getD reasons k EmptyText) v
@@ -71,6 +71,7 @@ outcome-told (Refused SecondRecord p) = refl
 outcome-told (Refused NoLetters p) = refl
 outcome-told (Refused TooManyLetters p) = refl
 outcome-told (Refused FileTooLong p) = refl
+outcome-told (Refused WrongTable p) = refl
 
 -- Number and value tell the whole answer: two answers that have both in common are equal.
 pub answer-told : (a b : Answer) → number a ≡ number b → value a ≡ value b → a ≡ b

@@ -175,3 +175,7 @@ pending-none {b} {at = at} p h = p .completed b at (written-none b at h)
 -- A text within the limits, and a buffer that is long enough.
 pub sized-room : {text out : List ℕ} → Sized (length text) → length text ≤ length out → TextRoom text out
 sized-room sized h = record { short = sized .short; places = h }
+
+-- A buffer with room for a text has room for another of that length.
+pub same-room : {x y out : List ℕ} → length y ≡ length x → TextRoom x out → TextRoom y out
+same-room e room = record { short = omega (arith, room .short); places = omega (arith, room .places) }

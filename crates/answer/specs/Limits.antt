@@ -1,4 +1,4 @@
--- The limits of document 01.
+-- The limits of documents 01 and 02.
 -- Assumes nothing.
 use Prim.Native.Nat.{ℕ, _*_, _≤_}
 
@@ -26,3 +26,11 @@ runListLength n = 6 * n
 -- The length that the work buffer of the runs needs ("Places needed", refusal 5).
 abbrev pub workLength : ℕ → ℕ
 workLength n = 2 * n
+
+-- The order number that stands for a rank table, and the last that the ranked forms take (document 02, E1; refusal 3).
+abbrev pub rankedOrder : ℕ
+rankedOrder = 2
+
+-- A rank table has so many entries, one for each byte (document 02, E1; refusal 16).
+abbrev pub tableLength : ℕ
+tableLength = 256

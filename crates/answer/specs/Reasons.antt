@@ -2,9 +2,9 @@
 -- Assumes nothing.
 use Prim.Native.Nat.{ℕ}
 use Rattle.answer.specs.declared.Reason.{Reason}
-use Rattle.answer.specs.declared.Reason.the-variants.{EmptyText, TextTooLong, UnknownOrder, ShortOutput, ShortWork, ZeroEntry, LongEntry, CrossingSpans, NoHeader, BadName, UnfitByte, SecondRecord, NoLetters, TooManyLetters, FileTooLong}
+use Rattle.answer.specs.declared.Reason.the-variants.{EmptyText, TextTooLong, UnknownOrder, ShortOutput, ShortWork, ZeroEntry, LongEntry, CrossingSpans, NoHeader, BadName, UnfitByte, SecondRecord, NoLetters, TooManyLetters, FileTooLong, WrongTable}
 
--- Document 01's number for each reason ("Where each check stands", column "No.").
+-- The number of each reason: document 01, "Where each check stands", column "No."; 16 is document 02's, E1.
 abbrev pub numberOf : Reason → ℕ
 numberOf EmptyText = 1
 numberOf TextTooLong = 2
@@ -21,3 +21,4 @@ numberOf SecondRecord = 12
 numberOf NoLetters = 13
 numberOf TooManyLetters = 14
 numberOf FileTooLong = 15
+numberOf WrongTable = 16

@@ -7,13 +7,13 @@ ghost use mathlib.Core.Path.{_≡_};
 ghost use Rattle.answer.specs.Reasons.{numberOf};
 ghost use Rattle.answer.specs.Answers.{acceptedWith, refusedFor, number, value};
 
-// Why a call refuses its input: a case for each row of document 01, "Where each check stands".
+// Why a call refuses its input: a case for each row of document 01, "Where each check stands", and those that document 02 adds.
 pub enum Reason {
     // 1: the length of the text or array is 0.
     EmptyText,
     // 2: the length of the text or array is over 1,048,576.
     TextTooLong,
-    // 3: the order number is neither 0 nor 1.
+    // 3: the order number is none that the call takes: 0 or 1, in the ranked forms also 2.
     UnknownOrder,
     // 4: an output buffer is shorter than needed; for the reader, the letters buffer is under 2,048.
     ShortOutput,
@@ -39,9 +39,11 @@ pub enum Reason {
     TooManyLetters,
     // 15: the FASTA input is over 8,192 bytes.
     FileTooLong,
+    // 16: a rank table that is to be used hasn't 256 entries.
+    WrongTable,
 }
 
-// What a call makes of its input. The position is 0 where document 01's table names none.
+// What a call makes of its input. The position is 0 where the tables of the documents name none.
 pub enum Outcome {
     Accepted { count: u32 },
     Refused { reason: Reason, position: u32 },
@@ -70,7 +72,7 @@ pub fn refused(reason: Reason, position: u32) -> Answer
     }
 }
 
-// The number that document 01 gives a reason.
+// The number of a reason.
 fn number_of(reason: Reason) -> u32
     ensures number { λ r. ⌜ r ≡ numberOf reason ⌝ }
 {
@@ -90,6 +92,7 @@ fn number_of(reason: Reason) -> u32
         Reason::NoLetters => 13,
         Reason::TooManyLetters => 14,
         Reason::FileTooLong => 15,
+        Reason::WrongTable => 16,
     }
 }
 

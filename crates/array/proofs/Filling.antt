@@ -26,8 +26,8 @@ use Rattle.array.proofs.JoiningLaws.{joining-store}
 use Rattle.array.proofs.Known.{agreement-short}
 
 -- Nothing is filled before the first position.
-pub filled-start : (order : ℕ) (x buf : List ℕ) → Filled order x buf buf (length x)
-filled-start order x buf = record { rows = finished refl; others = kept-all buf }
+pub filled-start : (order : ℕ) (x buf : List ℕ) (n : ℕ) → n ≡ length x → Filled order x buf buf n
+filled-start order x buf n size = record { rows = finished size; others = kept-all buf }
 
 -- What is stored at the last place of a word of two letters or more fits.
 stored-small : (order : ℕ) (x before buf : List ℕ) (i s : ℕ) (r : Joined) → JoinedTo order x before buf i r → s ≤ r .part → 1 < r .end - i →

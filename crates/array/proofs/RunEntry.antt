@@ -10,17 +10,17 @@ use Rattle.words.specs.Laws.RunExtent.{Extent, extent-from}
 use Rattle.words.specs.Laws.RunMarks.{endBound, end-below, entry-listed, unlisted, runEntry}
 use Rattle.words.specs.Laws.SpanLyndon.{letters}
 use Rattle.words.specs.Laws.SuffixOrder.{NextSmaller}
-use Rattle.words.specs.Letters.{orderOf}
+use Rattle.words.specs.Letters.{rising}
 use Rattle.answer.specs.Content.{Written}
 use Rattle.array.specs.Core.RunExtent.{LeftExtent, AtRoot}
 use Rattle.array.specs.Core.RunPass.{Listed, skipped, listed}
 
-module _ (order : ℕ) (x list : List ℕ) (i j k s count : ℕ) (w : AtRoot order x i j k) (left : LeftExtent x i (j - i) s) where
+module _ (order : ℕ) (x list : List ℕ) (i j k s count : ℕ) (w : AtRoot x i j k) (left : LeftExtent x i (j - i) s) where
   goes-on : i + (j - i) ≡ j
   goes-on = omega (arith, w .next .after)
 
-  next-at : NextSmaller (orderOf order) (letters 0 x) (length x) i (i + (j - i))
-  next-at = subst (λ (m : ℕ). NextSmaller (orderOf order) (letters 0 x) (length x) i m) (sym goes-on) (w .next)
+  next-at : NextSmaller rising (letters 0 x) (length x) i (i + (j - i))
+  next-at = subst (λ (m : ℕ). NextSmaller rising (letters 0 x) (length x) i m) (sym goes-on) (w .next)
 
   -- How far the period goes around i.
   root-extent : Extent (letters 0 x) (length x) i s (j + k) (j - i)
@@ -35,7 +35,7 @@ module _ (order : ℕ) (x list : List ℕ) (i j k s count : ℕ) (w : AtRoot ord
       Listed order x list list i count count
   nothing h =
       skipped refl refl
-      (unlisted (orderOf order) (letters 0 x) (length x) (endBound order (length x)) i s (j + k) (j - i) next-at root-extent h)
+      (unlisted rising (letters 0 x) (length x) (endBound order (length x)) i s (j + k) (j - i) next-at root-extent h)
 
   -- The period does not go on for two periods.
   pub too-short : i - s + k < j - i → Listed order x list list i count count
@@ -54,7 +54,7 @@ module _ (order : ℕ) (x list : List ℕ) (i j k s count : ℕ) (w : AtRoot ord
       Written list after (3 * count) (3 * (count + 1)) (s ∷ (j + k - 1) ∷ (j - i) ∷ []) → Listed order x list after i count (count + 1)
   run-found h early after e =
       listed (runEntry s (j + k) (j - i))
-      (entry-listed (orderOf order) (letters 0 x) (length x) (endBound order (length x)) i s (j + k) (j - i)
+      (entry-listed rising (letters 0 x) (length x) (endBound order (length x)) i s (j + k) (j - i)
       (record {
         next = next-at;
         extent = root-extent;

@@ -2,3 +2,5 @@ pub mod CommonPrefix
 pub mod Calls
 pub mod Core
 pub mod Theorems
+pub mod RankTheorems
+pub mod RankExamples

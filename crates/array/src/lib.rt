@@ -1,5 +1,5 @@
-// The Lyndon array of a text of bytes (`bytes`) or of 32-bit letters (`numbers`), in either order, and the list of all runs of a text of
-// bytes (`runs`).
+// The Lyndon array of a text of bytes (`bytes`) or of 32-bit letters (`numbers`), in either order, of bytes also by a table of ranks, and the list of
+// all runs of a text of bytes (`runs`), by the bytes or by such a table.
 //
 // The arrays are made by the join loop of document 002 (LONGESTLYNDON) from the last position to the first; while it runs, the last place
 // of a factor remembers how far the factor agrees with what follows it and with its last part, and comparisons start there. The runs are

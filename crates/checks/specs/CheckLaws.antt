@@ -1,21 +1,22 @@
 -- Checks one after the other, what they make of the answer, and what is known where they pass.
 -- Assumes nothing.
 use mathlib.Core.Path.{_≡_, refl, sym, ap, _∙_}
-use mathlib.Core.Bool.{Bool, true, false}
+use mathlib.Core.Bool.{Bool, true, false, not, _&&_}
 use Prim.Native.Nat.{ℕ, _<_, _≤_}
 use native.Mathlib.Omega.{arith}
-use borrow.Author.Tests.{lt-ltb, le-ltb, eq-eqb, ne-eqb, ltb-false, eqb-false}
+use borrow.Author.Tests.{lt-ltb, le-ltb, eq-eqb, ne-eqb, ltb-false, eqb-true, eqb-false, not-false}
 use lib.Dec.{ltb, eqb}
 use Rattle.answer.specs.declared.Answer.{Answer}
 use Rattle.answer.specs.declared.Outcome.{Outcome}
 use Rattle.answer.specs.declared.Outcome.the-variants.{Accepted, Refused}
 use Rattle.answer.specs.declared.Reason.{Reason}
-use Rattle.answer.specs.declared.Reason.the-variants.{EmptyText, TextTooLong, UnknownOrder, ShortOutput, ShortWork, FileTooLong}
+use Rattle.answer.specs.declared.Reason.the-variants.{EmptyText, TextTooLong, UnknownOrder, ShortOutput, ShortWork, FileTooLong, WrongTable}
 use Rattle.checks.specs.declared.Check.{Check}
 use Rattle.checks.specs.declared.Check.the-variants.{Passed, Failed}
 use Rattle.answer.specs.Answers.{acceptedWith, refusedFor, refusedIf, accepted-apart}
-use Rattle.answer.specs.Limits.{Sized, maxLength, maxLetters, maxInput, runListLength, workLength}
+use Rattle.answer.specs.Limits.{Sized, maxLength, maxLetters, maxInput, runListLength, workLength, rankedOrder, tableLength}
 use Rattle.checks.specs.Checks.{limitChecked, lengthChecked, orderChecked, outputChecked, workChecked, inputChecked, textChecked, orderedTextChecked, forestChecked, runsChecked, readerChecked, answerTo, Adds}
+use Rattle.checks.specs.Checks.{tableChecked, rankedChecked, rankedTextChecked, rankedForestChecked, rankedRunsChecked, usesTable}
 
 -- A check, and then another.
 pub then : {earlier mid now : Check} {check further : Answer → Answer} → Adds earlier mid check → Adds mid now further →
@@ -30,6 +31,18 @@ module _ {now : Check} {check : Answer → Answer} (all : Adds Passed now check)
   -- Checks of which one fails refuse.
   pub failing : {reason : Reason} {position : ℕ} → now ≡ Failed reason position → check rest ≡ refusedFor reason position
   failing e = sym (all .answer rest) ∙ ap (λ (c : Check). answerTo c rest) e
+
+-- What follows the checks so far, by what they say.
+module _ (rest : Answer) {c : Check} where
+  pub told-passed : c ≡ Passed → answerTo c rest ≡ rest
+  told-passed e = ap (λ (k : Check). answerTo k rest) e
+
+  pub told-failed : {reason : Reason} {position : ℕ} → c ≡ Failed reason position → answerTo c rest ≡ refusedFor reason position
+  told-failed e = ap (λ (k : Check). answerTo k rest) e
+
+-- An answer by what the checks say is that of the checks.
+pub answered-by : (rest : Answer) {c : Check} {check : Answer → Answer} {r : Answer} → Adds Passed c check → r ≡ answerTo c rest → r ≡ check rest
+answered-by rest all e = e ∙ all .answer rest
 
 -- What is known where a check and what follows it accept: its condition, and that what follows does.
 module _ (rest : Answer) where
@@ -46,6 +59,17 @@ module _ (rest : Answer) where
 
   pub work-cleared : (needed given : ℕ) → workChecked needed given rest ≡ acceptedWith 0 → (needed ≤ given) × (rest ≡ acceptedWith 0)
   work-cleared needed given e = let p = if-cleared (ltb given needed) ShortWork 0 e in (ltb-false given needed (p .0), p .1)
+
+  -- A table that is used has its length.
+  pub table-cleared : (used : Bool) (entries : ℕ) → tableChecked used entries rest ≡ acceptedWith 0 →
+      (used ≡ true → entries ≡ tableLength) × (rest ≡ acceptedWith 0)
+  table-cleared used entries e =
+      let p = if-cleared (used && not (eqb entries tableLength)) WrongTable 0 e in
+      (fits used (p .0), p .1)
+    where
+      fits : (u : Bool) → u && not (eqb entries tableLength) ≡ false → u ≡ true → entries ≡ tableLength
+      fits true q t = eqb-true entries tableLength (not-false (eqb entries tableLength) q)
+      fits false q t = let z : _≡_ {A = ℕ} 0 1 = cc in absurd (omega arith)
 
 pub length-cleared : (rest : Answer) (limit n : ℕ) → lengthChecked limit n rest ≡ acceptedWith 0 →
     (0 < n) × (n ≤ limit) × (rest ≡ acceptedWith 0)
@@ -77,6 +101,27 @@ module _ {now : Check} where
       let named = order-cleared (outputChecked n given (acceptedWith 0)) 1 order (sized .1) in
       (sized .0, named .0, output-cleared (acceptedWith 0) n given (named .1) .0)
 
+  ranked-passed : (n order entries : ℕ) (check : Answer → Answer) → Adds Passed now (λ rest. rankedChecked n order entries (check rest)) → now ≡ Passed →
+      Sized n × (order ≤ rankedOrder) × (usesTable order ≡ true → entries ≡ tableLength) × (check (acceptedWith 0) ≡ acceptedWith 0)
+  ranked-passed n order entries check all e =
+      let sized = sized-passed n (λ rest. orderChecked rankedOrder order (tableChecked (usesTable order) entries (check rest))) all e in
+      let named = order-cleared (tableChecked (usesTable order) entries (check (acceptedWith 0))) rankedOrder order (sized .1) in
+      let ranked = table-cleared (check (acceptedWith 0)) (usesTable order) entries (named .1) in
+      (sized .0, named .0, ranked .0, ranked .1)
+
+  pub ranked-text-passed : (n order entries given : ℕ) → Adds Passed now (rankedTextChecked n order entries given) → now ≡ Passed →
+      Sized n × (n ≤ given) × (order ≤ rankedOrder) × (usesTable order ≡ true → entries ≡ tableLength)
+  ranked-text-passed n order entries given all e =
+      let known = ranked-passed n order entries (outputChecked n given) all e in
+      (known .0, output-cleared (acceptedWith 0) n given (known .3) .0, known .1, known .2)
+
+  pub ranked-forest-passed : (n order entries first past : ℕ) → Adds Passed now (rankedForestChecked n order entries first past) → now ≡ Passed →
+      Sized n × (order ≤ rankedOrder) × (usesTable order ≡ true → entries ≡ tableLength) × (n ≤ first) × (n ≤ past)
+  ranked-forest-passed n order entries first past all e =
+      let known = ranked-passed n order entries (λ rest. outputChecked n first (outputChecked n past rest)) all e in
+      let in-first = output-cleared (outputChecked n past (acceptedWith 0)) n first (known .3) in
+      (known .0, known .1, known .2, in-first .0, output-cleared (acceptedWith 0) n past (in-first .1) .0)
+
   pub forest-passed : (n first past : ℕ) → Adds Passed now (forestChecked n first past) → now ≡ Passed → Sized n × (n ≤ first) × (n ≤ past)
   forest-passed n first past all e =
       let sized = sized-passed n (λ rest. outputChecked n first (outputChecked n past rest)) all e in
@@ -90,6 +135,14 @@ module _ {now : Check} where
       let in-list = output-cleared (workChecked (workLength n) work (acceptedWith 0)) (runListLength n) list (sized .1) in
       (sized .0, in-list .0, work-cleared (acceptedWith 0) (workLength n) work (in-list .1) .0)
 
+  pub ranked-runs-passed : (n entries list work : ℕ) → Adds Passed now (rankedRunsChecked n entries list work) → now ≡ Passed →
+      Sized n × (runListLength n ≤ list) × (workLength n ≤ work) × (entries ≡ tableLength)
+  ranked-runs-passed n entries list work all e =
+      let sized = sized-passed n (λ rest. tableChecked true entries (outputChecked (runListLength n) list (workChecked (workLength n) work rest))) all e in
+      let ranked = table-cleared (outputChecked (runListLength n) list (workChecked (workLength n) work (acceptedWith 0))) true entries (sized .1) in
+      let in-list = output-cleared (workChecked (workLength n) work (acceptedWith 0)) (runListLength n) list (ranked .1) in
+      (sized .0, in-list .0, work-cleared (acceptedWith 0) (workLength n) work (in-list .1) .0, ranked .0 refl)
+
   pub reader-passed : (n given : ℕ) → Adds Passed now (readerChecked n given) → now ≡ Passed → (n ≤ maxInput) × (maxLetters ≤ given)
   reader-passed n given all e =
       let room = output-cleared (inputChecked n (acceptedWith 0)) maxLetters given (passing all (acceptedWith 0) e) in
@@ -102,6 +155,10 @@ module _ (rest : Answer) where
 
   pub order-passes : (last order : ℕ) → order ≤ last → orderChecked last order rest ≡ rest
   order-passes last order h = simp (le-ltb last order h)
+
+  pub table-passes : (used : Bool) (entries : ℕ) → (used ≡ true → entries ≡ tableLength) → tableChecked used entries rest ≡ rest
+  table-passes true entries h = simp (eq-eqb entries tableLength (h refl))
+  table-passes false entries h = refl
 
   pub output-passes : (needed given : ℕ) → needed ≤ given → outputChecked needed given rest ≡ rest
   output-passes needed given h = simp (le-ltb given needed h)
@@ -128,6 +185,24 @@ module _ (n : ℕ) (sized : Sized n) where
     runs-passes list work list-room work-room =
         array-passes _ ∙ output-passes _ (runListLength n) list list-room ∙ work-passes rest (workLength n) work work-room
 
+-- Checks with an order number that the call takes, and with a table that fits where it is used, are those of the call without them.
+module _ (n : ℕ) (rest : Answer) where
+  pub ordered-text-as : (order given : ℕ) → order ≤ 1 → orderedTextChecked n order given rest ≡ textChecked n given rest
+  ordered-text-as order given named = ap (lengthChecked maxLength n) (order-passes _ 1 order named)
+
+  module _ (order entries : ℕ) (named : order ≤ rankedOrder) (fits : usesTable order ≡ true → entries ≡ tableLength) where
+    ranked-as : (after : Answer) → rankedChecked n order entries after ≡ lengthChecked maxLength n after
+    ranked-as after = ap (lengthChecked maxLength n) (order-passes _ rankedOrder order named ∙ table-passes after (usesTable order) entries fits)
+
+    pub ranked-text-as : (given : ℕ) → rankedTextChecked n order entries given rest ≡ textChecked n given rest
+    ranked-text-as given = ranked-as _
+
+    pub ranked-forest-as : (first past : ℕ) → rankedForestChecked n order entries first past rest ≡ forestChecked n first past rest
+    ranked-forest-as first past = ranked-as _
+
+  pub ranked-runs-as : (entries list work : ℕ) → entries ≡ tableLength → rankedRunsChecked n entries list work rest ≡ runsChecked n list work rest
+  ranked-runs-as entries list work fits = ap (lengthChecked maxLength n) (table-passes _ true entries (λ t. fits))
+
 -- The checks, where they refuse: together with the laws above, each is given whenever its condition holds, and never otherwise.
 module _ (rest : Answer) where
   pub length-empty : (limit n : ℕ) → n ≡ 0 → lengthChecked limit n rest ≡ refusedFor EmptyText 0
@@ -138,6 +213,9 @@ module _ (rest : Answer) where
 
   pub order-unknown : (last order : ℕ) → last < order → orderChecked last order rest ≡ refusedFor UnknownOrder 0
   order-unknown last order h = simp (lt-ltb last order h)
+
+  pub table-unfit : (used : Bool) (entries : ℕ) → used ≡ true → ¬ (entries ≡ tableLength) → tableChecked used entries rest ≡ refusedFor WrongTable 0
+  table-unfit used entries t d = simp (t, ne-eqb entries tableLength d)
 
   pub output-short : (needed given : ℕ) → given < needed → outputChecked needed given rest ≡ refusedFor ShortOutput 0
   output-short needed given h = simp (lt-ltb given needed h)

@@ -1,14 +1,15 @@
--- The checks of document 01's table ("Where each check stands"), each with what follows where it does not refuse.
+-- The checks of document 01's table ("Where each check stands") and of document 02, each with what follows where it does not refuse.
 -- Assumes nothing.
 use mathlib.Core.Path.{_≡_}
+use mathlib.Core.Bool.{Bool, true, not, _&&_}
 use Prim.Native.Nat.{ℕ}
 use lib.Dec.{ltb, eqb}
 use Rattle.answer.specs.declared.Answer.{Answer}
 use Rattle.checks.specs.declared.Check.{Check}
 use Rattle.checks.specs.declared.Check.the-variants.{Passed, Failed}
-use Rattle.answer.specs.declared.Reason.the-variants.{EmptyText, TextTooLong, UnknownOrder, ShortOutput, ShortWork, FileTooLong}
+use Rattle.answer.specs.declared.Reason.the-variants.{EmptyText, TextTooLong, UnknownOrder, ShortOutput, ShortWork, FileTooLong, WrongTable}
 use Rattle.answer.specs.Answers.{refusedFor, refusedIf}
-use Rattle.answer.specs.Limits.{maxLength, maxLetters, maxInput, runListLength, workLength}
+use Rattle.answer.specs.Limits.{maxLength, maxLetters, maxInput, runListLength, workLength, rankedOrder, tableLength}
 
 -- Refusal 1: a text or array of n letters or entries.
 abbrev pub emptyChecked : ℕ → Answer → Answer
@@ -25,6 +26,14 @@ lengthChecked limit n rest = emptyChecked n (limitChecked limit n rest)
 -- Refusal 3: the order number, at most `last`.
 abbrev pub orderChecked : ℕ → ℕ → Answer → Answer
 orderChecked last order = refusedIf (ltb last order) UnknownOrder 0
+
+-- The table is used in an order: in order 2.
+abbrev pub usesTable : ℕ → Bool
+usesTable order = eqb order rankedOrder
+
+-- Refusal 16: a rank table that is used has 256 entries.
+abbrev pub tableChecked : Bool → ℕ → Answer → Answer
+tableChecked used entries = refusedIf (used && not (eqb entries tableLength)) WrongTable 0
 
 -- Refusal 4: an output buffer that has `given` places and needs `needed`.
 abbrev pub outputChecked : ℕ → ℕ → Answer → Answer
@@ -46,6 +55,18 @@ textChecked n given rest = lengthChecked maxLength n (outputChecked n given rest
 abbrev pub orderedTextChecked : ℕ → ℕ → ℕ → Answer → Answer
 orderedTextChecked n order given rest = lengthChecked maxLength n (orderChecked 1 order (outputChecked n given rest))
 
+-- 1, 2, 3 and 16: a call on n letters that has an order number, 0 to 2, and a rank table.
+abbrev pub rankedChecked : ℕ → ℕ → ℕ → Answer → Answer
+rankedChecked n order entries rest = lengthChecked maxLength n (orderChecked rankedOrder order (tableChecked (usesTable order) entries rest))
+
+-- 1, 2, 3, 16 and 4: such a call that needs n places.
+abbrev pub rankedTextChecked : ℕ → ℕ → ℕ → ℕ → Answer → Answer
+rankedTextChecked n order entries given rest = rankedChecked n order entries (outputChecked n given rest)
+
+-- 1, 2, 3, 16 and 4, of both buffers: a forest of n letters in such an order.
+abbrev pub rankedForestChecked : ℕ → ℕ → ℕ → ℕ → ℕ → Answer → Answer
+rankedForestChecked n order entries first past rest = rankedTextChecked n order entries first (outputChecked n past rest)
+
 -- 1, 2 and 4, of both buffers: a forest of n letters or entries.
 abbrev pub forestChecked : ℕ → ℕ → ℕ → Answer → Answer
 forestChecked n first past rest = textChecked n first (outputChecked n past rest)
@@ -53,6 +74,11 @@ forestChecked n first past rest = textChecked n first (outputChecked n past rest
 -- 1, 2, 4 and 5: the runs of n letters, with the lengths of the list and of the work buffer.
 abbrev pub runsChecked : ℕ → ℕ → ℕ → Answer → Answer
 runsChecked n list work rest = lengthChecked maxLength n (outputChecked (runListLength n) list (workChecked (workLength n) work rest))
+
+-- 1, 2, 16, 4 and 5: the runs of n letters by a rank table.
+abbrev pub rankedRunsChecked : ℕ → ℕ → ℕ → ℕ → Answer → Answer
+rankedRunsChecked n entries list work rest =
+    lengthChecked maxLength n (tableChecked true entries (outputChecked (runListLength n) list (workChecked (workLength n) work rest)))
 
 -- 4 and 15: the reader, on an input of n bytes.
 abbrev pub readerChecked : ℕ → ℕ → Answer → Answer

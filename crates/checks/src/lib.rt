@@ -6,6 +6,7 @@ use answer::Reason;
 ghost use Rattle.answer.specs.Limits.{maxLength, runListLength, workLength};
 ghost use Rattle.answer.specs.Answers.{refusedIf};
 ghost use Rattle.checks.specs.Checks.{Adds, emptyChecked, limitChecked, lengthChecked, orderChecked, outputChecked, workChecked, inputChecked, textChecked, orderedTextChecked, forestChecked, runsChecked, readerChecked};
+ghost use Rattle.checks.specs.Checks.{tableChecked, rankedChecked, rankedTextChecked, rankedForestChecked, rankedRunsChecked};
 ghost use Rattle.checks.specs.declared.Check.the-variants.{Passed};
 
 // What the checks so far say.
@@ -37,6 +38,35 @@ pub fn ordered_text(letters: usize, number: u32, given: usize) -> Check
     output(named, letters, given)
 }
 
+// 1, 2, 3 and 16: a call on letters in order 0, 1 or 2, with the length of its rank table.
+fn ranked(letters: usize, number: u32, entries: usize) -> Check
+    ensures check { λ r. ⌜ Adds Passed r (rankedChecked letters number entries) ⌝ }
+{
+    let measured = length(Check::Passed, limits::MAX_LENGTH, letters);
+    let named = order(measured, limits::RANKED, number);
+    table(named, number == limits::RANKED, entries)
+}
+
+// 1, 2, 3, 16 and 4: such a call that needs as many places.
+pub fn ranked_text(letters: usize, number: u32, entries: usize, given: usize) -> Check
+    ensures check { λ r. ⌜ Adds Passed r (rankedTextChecked letters number entries given) ⌝ }
+{
+    output(ranked(letters, number, entries), letters, given)
+}
+
+// 1, 2, 3, 16 and 4, of both buffers: a forest of letters in such an order.
+pub fn ranked_forest(
+    letters: usize,
+    number: u32,
+    entries: usize,
+    first: usize,
+    past: usize,
+) -> Check
+    ensures check { λ r. ⌜ Adds Passed r (rankedForestChecked letters number entries first past) ⌝ }
+{
+    output(ranked_text(letters, number, entries, first), letters, past)
+}
+
 // 1, 2 and 4, of both buffers: a forest of n letters or entries.
 pub fn forest(n: usize, first: usize, past: usize) -> Check
     ensures check { λ r. ⌜ Adds Passed r (forestChecked n first past) ⌝ }
@@ -50,6 +80,15 @@ pub fn runs(n: usize, list: usize, buffer: usize) -> Check
 {
     let listed = run_list(length(Check::Passed, limits::MAX_LENGTH, n), n, list);
     run_work(listed, n, buffer)
+}
+
+// 1, 2, 16, 4 and 5: the runs of n letters by a rank table.
+pub fn ranked_runs(n: usize, entries: usize, list: usize, buffer: usize) -> Check
+    ensures check { λ r. ⌜ Adds Passed r (rankedRunsChecked n entries list buffer) ⌝ }
+{
+    let sized = length(Check::Passed, limits::MAX_LENGTH, n);
+    let ranked = table(sized, true, entries);
+    run_work(run_list(ranked, n, list), n, buffer)
 }
 
 // 4 and 15: the reader, on an input of n bytes.
@@ -105,6 +144,22 @@ fn order(earlier: Check, last: u32, order: u32) -> Check
     ensures check { λ r. ⌜ Adds earlier r (orderChecked last order) ⌝ }
 {
     refuse_if(earlier, last < order, Reason::UnknownOrder, 0)
+}
+
+// 16: a rank table that is used has an entry for each byte.
+fn table(earlier: Check, used: bool, entries: usize) -> Check
+    ensures check { λ r. ⌜ Adds earlier r (tableChecked used entries) ⌝ }
+{
+    if used {
+        refuse_if(
+            earlier,
+            entries != limits::TABLE_LENGTH,
+            Reason::WrongTable,
+            0,
+        )
+    } else {
+        earlier
+    }
 }
 
 // 4: an output buffer has the places needed.

@@ -1,4 +1,4 @@
-// The limits of document 01 that the calls share, named here and in the file `Limits` of `answer`. Nothing is assumed.
+// The limits of documents 01 and 02 that the calls share, named here and in the file `Limits` of `answer`. Nothing is assumed.
 ghost use mathlib.Core.Path.{_≡_};
 ghost use Rattle.answer.specs.Limits.{maxLetters};
 
@@ -16,6 +16,12 @@ pub const LIST_PLACES: usize = 6;
 
 // The places of the work buffer of the runs for each letter.
 pub const WORK_PLACES: usize = 2;
+
+// The order number that stands for a rank table.
+pub const RANKED: u32 = 2;
+
+// The entries of a rank table.
+pub const TABLE_LENGTH: usize = 256;
 
 // `MAX_LETTERS`, as the limit that contracts name.
 pub fn max_letters() -> usize

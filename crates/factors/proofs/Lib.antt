@@ -1,3 +1,4 @@
+pub mod Ranking
 pub mod Scanning
 pub mod Listing
 pub mod Tabling

@@ -5,57 +5,59 @@ use mathlib.Core.List.{List}
 use Prim.Native.Nat.{ℕ, suc, _+_, _-_, _<_, _≤_}
 use native.Mathlib.Omega.{arith}
 use lib.ListN.{length}
+use Rattle.words.specs.Letters.{Letters}
+use Rattle.words.specs.Decided.{Decided}
 use Rattle.letters.specs.declared.Comparison.{Comparison}
 use Rattle.letters.specs.declared.Comparison.the-variants.{Below, Same, Above}
 use Rattle.letters.specs.Compared.{comparisonOf}
 use Rattle.letters.proofs.Answers.{is-below, is-same, is-above}
-use Rattle.factors.specs.Default.{decided-default}
 use Rattle.factors.specs.Duval.{scanFrom, scanOf}
 use Rattle.factors.specs.DuvalSteps.{answerAt, scan-end, scan-below, scan-same, scan-above}
 
--- The scan from `start` has come to `end` with a period, and what it will find from there is what it finds.
-pub record Scanning (x : List ℕ) (start period end : ℕ) : Type 0 where
-  pub positive : 0 < period
-  pub whole : start + period ≤ end
-  pub inside : end ≤ length x
-  pub rest : scanFrom decided-default 0 x (length x - end) start period end ≡ scanOf decided-default 0 x start
+module _ {O : Letters {0, 0} ℕ} (D : Decided O) where
+  -- The scan from `start` has come to `end` with a period, and what it will find from there is what it finds.
+  pub record Scanning (x : List ℕ) (start period end : ℕ) : Type 0 where
+    pub positive : 0 < period
+    pub whole : start + period ≤ end
+    pub inside : end ≤ length x
+    pub rest : scanFrom D 0 x (length x - end) start period end ≡ scanOf D 0 x start
 
-pub scanning-start : (x : List ℕ) (start : ℕ) → start < length x → Scanning x start 1 (start + 1)
-scanning-start x start l =
-    let e : suc start ≡ start + 1 = omega arith in
-    record { positive = omega arith; whole = omega arith; inside = omega arith; rest = rw e }
+  pub scanning-start : (x : List ℕ) (start : ℕ) → start < length x → Scanning x start 1 (start + 1)
+  scanning-start x start l =
+      let e : suc start ≡ start + 1 = omega arith in
+      record { positive = omega arith; whole = omega arith; inside = omega arith; rest = rw e }
 
-module _ (x : List ℕ) (start period end : ℕ) (s : Scanning x start period end) (l : end < length x) where
-  -- A smaller letter stops the scan.
-  pub scanning-below : (r : Comparison) → r ≡ comparisonOf (answerAt decided-default 0 x period end) → r ≡ Below →
-      record { period = period; end = end } ≡ scanOf decided-default 0 x start
-  scanning-below r q e =
-      sym (scan-below decided-default 0 x start period end l (is-below (answerAt decided-default 0 x period end) (sym q ∙ e))) ∙ s .rest
+  module _ (x : List ℕ) (start period end : ℕ) (s : Scanning x start period end) (l : end < length x) where
+    -- A smaller letter stops the scan.
+    pub scanning-below : (r : Comparison) → r ≡ comparisonOf (answerAt D 0 x period end) → r ≡ Below →
+        record { period = period; end = end } ≡ scanOf D 0 x start
+    scanning-below r q e =
+        sym (scan-below D 0 x start period end l (is-below (answerAt D 0 x period end) (sym q ∙ e))) ∙ s .rest
 
-  -- An equal letter continues the period.
-  pub scanning-same : (r : Comparison) → r ≡ comparisonOf (answerAt decided-default 0 x period end) → r ≡ Same → Scanning x start period (end + 1)
-  scanning-same r q e =
-      record {
-        positive = s .positive;
-        whole = omega (arith, s .whole);
-        inside = omega arith;
-        rest =
-            sym (scan-same decided-default 0 x start period end l (is-same (answerAt decided-default 0 x period end) (sym q ∙ e))) ∙ s .rest;
-      }
+    -- An equal letter continues the period.
+    pub scanning-same : (r : Comparison) → r ≡ comparisonOf (answerAt D 0 x period end) → r ≡ Same → Scanning x start period (end + 1)
+    scanning-same r q e =
+        record {
+          positive = s .positive;
+          whole = omega (arith, s .whole);
+          inside = omega arith;
+          rest =
+              sym (scan-same D 0 x start period end l (is-same (answerAt D 0 x period end) (sym q ∙ e))) ∙ s .rest;
+        }
 
-  -- A greater letter makes all that was read the period.
-  pub scanning-above : (r : Comparison) → r ≡ comparisonOf (answerAt decided-default 0 x period end) → r ≡ Above →
-      Scanning x start (end + 1 - start) (end + 1)
-  scanning-above r q e =
-      record {
-        positive = omega (arith, s .whole);
-        whole = omega (arith, s .whole);
-        inside = omega arith;
-        rest =
-            sym (scan-above decided-default 0 x start period end l (is-above (answerAt decided-default 0 x period end) (sym q ∙ e))) ∙ s .rest;
-      }
+    -- A greater letter makes all that was read the period.
+    pub scanning-above : (r : Comparison) → r ≡ comparisonOf (answerAt D 0 x period end) → r ≡ Above →
+        Scanning x start (end + 1 - start) (end + 1)
+    scanning-above r q e =
+        record {
+          positive = omega (arith, s .whole);
+          whole = omega (arith, s .whole);
+          inside = omega arith;
+          rest =
+              sym (scan-above D 0 x start period end l (is-above (answerAt D 0 x period end) (sym q ∙ e))) ∙ s .rest;
+        }
 
--- The end of the text stops the scan.
-pub scanning-end : (x : List ℕ) (start period end : ℕ) → Scanning x start period end → length x ≤ end →
-    record { period = period; end = end } ≡ scanOf decided-default 0 x start
-scanning-end x start period end s l = sym (scan-end decided-default 0 x start period end l) ∙ s .rest
+  -- The end of the text stops the scan.
+  pub scanning-end : (x : List ℕ) (start period end : ℕ) → Scanning x start period end → length x ≤ end →
+      record { period = period; end = end } ≡ scanOf D 0 x start
+  scanning-end x start period end s l = sym (scan-end D 0 x start period end l) ∙ s .rest

@@ -5,3 +5,4 @@ pub mod DuvalFactorization
 pub mod Results
 pub mod Answers
 pub mod Theorems
+pub mod RankTheorems

@@ -1,21 +1,28 @@
 -- What the contracts of the calls say by the published definitions: texts of 1 to 1,048,576 letters are accepted, and what is then in the
 -- buffer.
 -- Assumes nothing.
-use mathlib.Core.Path.{_≡_, refl}
-use mathlib.Core.List.{List}
+use mathlib.Core.Path.{_≡_, refl, _∙_}
+use mathlib.Core.Bool.{true}
+use mathlib.Core.List.{List, []}
 use Prim.Native.Nat.{ℕ, _≤_}
+use native.Mathlib.Omega.{arith}
 use lib.ListN.{length, take, drop}
+use Rattle.words.specs.Letters.{orderOf}
+use Rattle.words.specs.Decided.{decided-order}
 use Rattle.words.specs.Factorization.{IsFactorization}
 use Rattle.words.specs.SuffixTable.{IsSuffixTable}
 use Rattle.words.specs.Compute.Factorization.{factorizationOf, factorizationOf-holds}
 use Rattle.words.specs.Compute.SuffixTable.{suffixTableOf, suffixTableOf-holds}
 use Rattle.answer.specs.Answers.{acceptedWith}
 use Rattle.answer.specs.AfterCall.{contentAfter}
-use Rattle.answer.specs.Limits.{Sized}
+use Rattle.answer.specs.Limits.{Sized, rankedOrder, tableLength}
 use Rattle.answer.specs.AfterLaws.{written-first, written-rest}
-use Rattle.checks.specs.CheckLaws.{text-passes}
+use Rattle.checks.specs.Checks.{usesTable}
+use Rattle.checks.specs.CheckLaws.{text-passes, ranked-text-as}
+use Rattle.letters.specs.Ranks.{directionOf, rowIn}
+use Rattle.letters.specs.RankLaws.{row-in-length}
 use Rattle.factors.specs.Default.{defaultOrder, decided-default}
-use Rattle.factors.specs.Answers.{factorizationAnswer, suffixTableAnswer}
+use Rattle.factors.specs.Answers.{factorizationAnswer, suffixTableAnswer, factorsIn, suffixTableIn, factorizationRankedAnswer, suffixTableRankedAnswer}
 
 -- What `factorization` leaves in its buffer, by its contract.
 abbrev pub startsAfter : List ℕ → List ℕ → List ℕ
@@ -25,38 +32,85 @@ startsAfter x out = contentAfter (factorizationAnswer x (length out)) (factoriza
 abbrev pub tableAfter : List ℕ → List ℕ → List ℕ
 tableAfter x out = contentAfter (suffixTableAnswer x (length out)) (suffixTableOf decided-default x) out
 
+-- What `factorization_ranked` leaves in its buffer, by its contract.
+abbrev pub factorsRankedAfter : ℕ → List ℕ → List ℕ → List ℕ → List ℕ
+factorsRankedAfter order table x out = contentAfter (factorizationRankedAnswer order table x (length out)) (factorsIn order table x) out
+
+-- What `suffix_table_ranked` leaves in its buffer, by its contract.
+abbrev pub suffixTableRankedAfter : ℕ → List ℕ → List ℕ → List ℕ → List ℕ
+suffixTableRankedAfter order table x out = contentAfter (suffixTableRankedAnswer order table x (length out)) (suffixTableIn order table x) out
+
 -- One buffer that is long enough.
 module _ (x : List ℕ) (sized : Sized (length x)) (out : List ℕ) (room : length x ≤ length out) where
+  -- An order number of the ranked calls, and a table that has 256 entries where it is used.
+  module _ (order : ℕ) (table : List ℕ) (named : order ≤ rankedOrder) (fits : usesTable order ≡ true → length table ≡ tableLength) where
+    -- `factorization_ranked` refuses no text; the count is the number of factors.
+    pub factorization-ranked-accepts : factorizationRankedAnswer order table x (length out) ≡ acceptedWith (length (factorsIn order table x))
+    factorization-ranked-accepts =
+        ranked-text-as (length x) _ order (length table) named fits (length out) ∙ text-passes (length x) sized _ (length out) room
+
+    -- As many places as there are factors hold their starts: in order 2 those of the row of ranks.
+    pub factorization-ranked-written :
+        IsFactorization (orderOf (directionOf order)) (rowIn order table x) (take (length (factorsIn order table x)) (factorsRankedAfter order table x out))
+    factorization-ranked-written =
+        let l = factorsIn order table x in
+        rw (written-first (factorizationRankedAnswer order table x (length out)) (length l) (length l) l out factorization-ranked-accepts refl)
+        (factorizationOf-holds (decided-order (directionOf order)) (rowIn order table x))
+
+    -- The others hold what they held before.
+    pub factorization-ranked-rest :
+        let k = length (factorsIn order table x) in drop k (factorsRankedAfter order table x out) ≡ drop k out
+    factorization-ranked-rest =
+        let l = factorsIn order table x in
+        written-rest (factorizationRankedAnswer order table x (length out)) (length l) (length l) l out factorization-ranked-accepts refl
+
+    -- `suffix_table_ranked` refuses no text; the count is n.
+    pub suffix-table-ranked-accepts : suffixTableRankedAnswer order table x (length out) ≡ acceptedWith (length x)
+    suffix-table-ranked-accepts =
+        ranked-text-as (length x) _ order (length table) named fits (length out) ∙ text-passes (length x) sized _ (length out) room
+
+    is-table : IsSuffixTable (orderOf (directionOf order)) (rowIn order table x) (suffixTableIn order table x)
+    is-table = suffixTableOf-holds (decided-order (directionOf order)) (rowIn order table x)
+
+    table-size : length (suffixTableIn order table x) ≡ length x
+    table-size = is-table .size ∙ row-in-length order table x
+
+    -- The first n places hold the Lyndon suffix table of the text: in order 2 that of the row of ranks.
+    pub suffix-table-ranked-written :
+        IsSuffixTable (orderOf (directionOf order)) (rowIn order table x) (take (length x) (suffixTableRankedAfter order table x out))
+    suffix-table-ranked-written =
+        let l = suffixTableIn order table x in
+        rw (written-first (suffixTableRankedAnswer order table x (length out)) (length x) (length x) l out suffix-table-ranked-accepts table-size) is-table
+
+    -- The others hold what they held before.
+    pub suffix-table-ranked-rest : drop (length x) (suffixTableRankedAfter order table x out) ≡ drop (length x) out
+    suffix-table-ranked-rest =
+        let l = suffixTableIn order table x in
+        written-rest (suffixTableRankedAnswer order table x (length out)) (length x) (length x) l out suffix-table-ranked-accepts table-size
+
+  -- The calls without an order are those of order 0, which uses no table.
+
   -- `factorization` refuses no text; the count is the number of factors.
   pub factorization-accepts : factorizationAnswer x (length out) ≡ acceptedWith (length (factorizationOf decided-default x))
-  factorization-accepts = text-passes (length x) sized _ (length out) room
+  factorization-accepts = factorization-ranked-accepts 0 [] (omega arith) (λ e. cc)
 
   -- As many places as there are factors hold their starts.
   pub factorization-written : IsFactorization defaultOrder x (take (length (factorizationOf decided-default x)) (startsAfter x out))
-  factorization-written =
-      let l = factorizationOf decided-default x in
-      rw (written-first (factorizationAnswer x (length out)) (length l) (length l) l out factorization-accepts refl)
-      (factorizationOf-holds decided-default x)
+  factorization-written = factorization-ranked-written 0 [] (omega arith) (λ e. cc)
 
   -- The others hold what they held before.
   pub factorization-rest :
       let k = length (factorizationOf decided-default x) in drop k (startsAfter x out) ≡ drop k out
-  factorization-rest =
-      let l = factorizationOf decided-default x in
-      written-rest (factorizationAnswer x (length out)) (length l) (length l) l out factorization-accepts refl
+  factorization-rest = factorization-ranked-rest 0 [] (omega arith) (λ e. cc)
 
   -- `suffix_table` refuses no text; the count is n.
   pub suffix-table-accepts : suffixTableAnswer x (length out) ≡ acceptedWith (length x)
-  suffix-table-accepts = text-passes (length x) sized _ (length out) room
+  suffix-table-accepts = suffix-table-ranked-accepts 0 [] (omega arith) (λ e. cc)
 
   -- The first n places hold the Lyndon suffix table of the text.
   pub suffix-table-written : IsSuffixTable defaultOrder x (take (length x) (tableAfter x out))
-  suffix-table-written =
-      let h = suffixTableOf-holds decided-default x in
-      rw (written-first (suffixTableAnswer x (length out)) (length x) (length x) (suffixTableOf decided-default x) out suffix-table-accepts (h .size)) h
+  suffix-table-written = suffix-table-ranked-written 0 [] (omega arith) (λ e. cc)
 
   -- The others hold what they held before.
   pub suffix-table-rest : drop (length x) (tableAfter x out) ≡ drop (length x) out
-  suffix-table-rest =
-      written-rest (suffixTableAnswer x (length out)) (length x) (length x) (suffixTableOf decided-default x) out suffix-table-accepts
-      (suffixTableOf-holds decided-default x .size)
+  suffix-table-rest = suffix-table-ranked-rest 0 [] (omega arith) (λ e. cc)

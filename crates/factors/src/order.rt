@@ -1,15 +1,4 @@
-// How two letters of a byte text compare in the default order: the one place that knows it.
-use letters::Comparison;
-ghost use mathlib.Core.Path.{_≡_};
-ghost use Rattle.letters.specs.Compared.{comparisonOf};
-ghost use Rattle.factors.specs.Default.{decided-default};
+// The default order, that of the calls that take no order: the one place in the code that names it.
 
-// The number of the default order.
-const DEFAULT: u32 = 0;
-
-// One question, with the answers below, same and above.
-pub(crate) fn compare(a: u8, b: u8) -> Comparison
-    ensures answer { λ r. ⌜ r ≡ comparisonOf (decided-default .compare a b) ⌝ }
-{
-    letters::compare_bytes(a, b, DEFAULT)
-}
+// Its number.
+pub const DEFAULT: u32 = 0;

@@ -1,5 +1,5 @@
 // The Lyndon suffix table of a byte text (document 000's LYNDONSUFFIXTABLE).
-use super::order::compare;
+use super::order;
 use super::scan::Stretch;
 use answer::Answer;
 use checks::Check;
@@ -7,26 +7,29 @@ use letters::Comparison;
 ghost use mathlib.Core.Path.{_≡_};
 ghost use Prim.Native.Nat.{_<_};
 ghost use lib.ListN.{length};
+ghost use Rattle.words.specs.Letters.{orderOf};
 ghost use Rattle.words.specs.Compute.SuffixTable.{suffixTableOf};
 ghost use Rattle.answer.specs.AfterCall.{contentAfter};
-ghost use Rattle.factors.specs.Default.{decided-default};
 ghost use Rattle.answer.specs.Content.{TextRoom};
-ghost use Rattle.factors.specs.Results.{Tabled, Startable, Covered, TableFilled};
-ghost use Rattle.factors.specs.Answers.{suffixTableAnswer};
+ghost use Rattle.letters.specs.Ranks.{rankRow};
+ghost use Rattle.factors.specs.Default.{decided-default};
+ghost use Rattle.factors.specs.Results.{AllTabled, Startable, Covered, TableFilled};
+ghost use Rattle.factors.specs.Answers.{suffixTableAnswer, suffixTableIn, suffixTableRankedAnswer};
 
 // The scan from `start`, which writes the entry of each position that it reads: behind a greater
 // letter the longest Lyndon word is all that was read, and behind an equal one it is that of the
-// copy before.
-fn fill(text: &[u8], out: &mut [u32], start: usize) -> Stretch
+// copy before. Letters are compared by their ranks, in order 0 or 1.
+fn fill(text: &[u8], order: u32, ranks: &[u8; 256], out: &mut [u32], start: usize) -> Stretch
     requires { ⌜ TextRoom (now text) (now out) ⌝ }
-    requires { ⌜ Startable (now text) (now out) start ⌝ }
-    ensures content { λ r. ⌜ TableFilled (now (text .entry)) (now (out .entry)) (now (out .exit)) start r ⌝ }
+    requires { ⌜ start < length (now text) ⌝ }
+    requires { ⌜ Startable (orderOf order) (rankRow (now ranks) (now text)) (now out) start ⌝ }
+    ensures content { λ r. ⌜ TableFilled (orderOf order) (rankRow (now (ranks .entry)) (now (text .entry))) (now (out .entry)) (now (out .exit)) start r ⌝ }
 {
     let mut period: usize = 1;
     let mut end = start + 1;
     out[start] = 1;
     while end < text.len() {
-        let c = compare(text[end], text[end - period]);
+        let c = letters::compare_ranks(ranks, text[end], text[end - period], order);
         match c {
             Comparison::Below => {
                 return Stretch { period, end };
@@ -45,29 +48,67 @@ fn fill(text: &[u8], out: &mut [u32], start: usize) -> Stretch
 }
 
 // Writes the entries up to the end of the stretch in which the factor at `start` lies.
-fn fill_at(text: &[u8], out: &mut [u32], start: usize, s: Stretch) -> Stretch
+fn fill_at(
+    text: &[u8],
+    order: u32,
+    ranks: &[u8; 256],
+    out: &mut [u32],
+    start: usize,
+    s: Stretch,
+) -> Stretch
     requires { ⌜ TextRoom (now text) (now out) ⌝ }
-    requires { ⌜ Covered (now text) (now out) start s ⌝ }
     requires { ⌜ start < length (now text) ⌝ }
-    ensures content { λ r. ⌜ TableFilled (now (text .entry)) (now (out .entry)) (now (out .exit)) start r ⌝ }
+    requires { ⌜ Covered (orderOf order) (rankRow (now ranks) (now text)) (now out) start s ⌝ }
+    ensures content { λ r. ⌜ TableFilled (orderOf order) (rankRow (now (ranks .entry)) (now (text .entry))) (now (out .entry)) (now (out .exit)) start r ⌝ }
 {
     if s.end < start + s.period {
-        fill(text, out, start)
+        fill(text, order, ranks, out, start)
     } else {
         s
     }
 }
 
 // Writes the whole table, factor by factor.
-fn fill_table(text: &[u8], out: &mut [u32])
+fn fill_table(text: &[u8], order: u32, ranks: &[u8; 256], out: &mut [u32])
     requires { ⌜ TextRoom (now text) (now out) ⌝ }
-    ensures content { λ r. ⌜ Tabled (now (text .entry)) (now (out .entry)) (now (out .exit)) (length (now (text .entry))) ⌝ }
+    ensures content { λ r. ⌜ AllTabled (orderOf order) (rankRow (now (ranks .entry)) (now (text .entry))) (now (out .entry)) (now (out .exit)) ⌝ }
 {
     let mut start: usize = 0;
     let mut s = Stretch { period: 1, end: 0 };
     while start < text.len() {
-        s = fill_at(text, out, start, s);
+        s = fill_at(text, order, ranks, out, start, s);
         start += s.period;
+    }
+}
+
+// The same, where order 0 is told apart before the loops.
+fn fill_in(text: &[u8], order: u32, ranks: &[u8; 256], out: &mut [u32])
+    requires { ⌜ TextRoom (now text) (now out) ⌝ }
+    ensures content { λ r. ⌜ AllTabled (orderOf order) (rankRow (now (ranks .entry)) (now (text .entry))) (now (out .entry)) (now (out .exit)) ⌝ }
+{
+    if order == 0 {
+        fill_table(text, 0, ranks, out);
+    } else {
+        fill_table(text, order, ranks, out);
+    }
+}
+
+// Writes the Lyndon suffix table of `text`, in an order and with a rank table that order 2 looks at,
+// into `out`; the count is the number of letters.
+pub fn suffix_table_ranked(text: &[u8], order: u32, table: &[u8], out: &mut [u32]) -> Answer
+    ensures answer { λ r. ⌜ r ≡ suffixTableRankedAnswer order (now (table .entry)) (now (text .entry)) (length (now (out .entry))) ⌝ }
+    ensures content { λ r. ⌜ now (out .exit) ≡ contentAfter r (suffixTableIn order (now (table .entry)) (now (text .entry))) (now (out .entry)) ⌝ }
+{
+    let n = text.len();
+    let c = checks::ranked_text(n, order, table.len(), out.len());
+    match c {
+        Check::Failed { reason, position } => answer::refused(reason, position),
+        Check::Passed => {
+            let mut ranks = [0u8; 256];
+            letters::rank_table(order, table, &mut ranks);
+            fill_in(text, letters::direction(order), &ranks, out);
+            answer::accepted(n as u32)
+        }
     }
 }
 
@@ -76,13 +117,5 @@ pub fn suffix_table(text: &[u8], out: &mut [u32]) -> Answer
     ensures answer { λ r. ⌜ r ≡ suffixTableAnswer (now (text .entry)) (length (now (out .entry))) ⌝ }
     ensures content { λ r. ⌜ now (out .exit) ≡ contentAfter r (suffixTableOf decided-default (now (text .entry))) (now (out .entry)) ⌝ }
 {
-    let n = text.len();
-    let c = checks::text(n, out.len());
-    match c {
-        Check::Failed { reason, position } => answer::refused(reason, position),
-        Check::Passed => {
-            fill_table(text, out);
-            answer::accepted(n as u32)
-        }
-    }
+    suffix_table_ranked(text, order::DEFAULT, &text[..0], out)
 }

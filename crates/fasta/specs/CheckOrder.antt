@@ -8,28 +8,29 @@ use Rattle.answer.specs.declared.Answer.{Answer}
 use Rattle.answer.specs.declared.Outcome.{Outcome}
 use Rattle.answer.specs.declared.Outcome.the-variants.{Accepted, Refused}
 use Rattle.answer.specs.declared.Reason.{Reason}
-use Rattle.answer.specs.declared.Reason.the-variants.{EmptyText, TextTooLong, UnknownOrder, ShortOutput, ShortWork, ZeroEntry, LongEntry, CrossingSpans}
+use Rattle.answer.specs.declared.Reason.the-variants.{EmptyText, TextTooLong, UnknownOrder, WrongTable, ShortOutput, ShortWork, ZeroEntry, LongEntry, CrossingSpans}
 use Rattle.answer.specs.declared.Reason.the-variants.{NoHeader, BadName, UnfitByte, SecondRecord, NoLetters, TooManyLetters, FileTooLong}
 use Rattle.fasta.specs.Rows.{HeaderEnds, sequenceLetters, Row}
 
 -- "Checks run from the top row down; 6 and 7 share one pass, as do 11, 12 and 14": the passes in their order, which are
--- not the numbers of the refusals.
+-- not the numbers of the refusals. 16 stands "directly after 3" (document 02, E1).
 abbrev pub passOf : Reason → ℕ
 passOf EmptyText = 1
 passOf TextTooLong = 2
 passOf UnknownOrder = 3
-passOf ShortOutput = 4
-passOf ShortWork = 5
-passOf ZeroEntry = 6
-passOf LongEntry = 6
-passOf CrossingSpans = 7
-passOf FileTooLong = 8
-passOf NoHeader = 9
-passOf BadName = 10
-passOf UnfitByte = 11
-passOf SecondRecord = 11
-passOf TooManyLetters = 11
-passOf NoLetters = 12
+passOf WrongTable = 4
+passOf ShortOutput = 5
+passOf ShortWork = 6
+passOf ZeroEntry = 7
+passOf LongEntry = 7
+passOf CrossingSpans = 8
+passOf FileTooLong = 9
+passOf NoHeader = 10
+passOf BadName = 11
+passOf UnfitByte = 12
+passOf SecondRecord = 12
+passOf TooManyLetters = 12
+passOf NoLetters = 13
 
 -- The check for r at p comes before the check for r′ at p′: in an earlier pass, or in the same pass at a lesser position.
 pub data EarlierCheck (r : Reason) (p : ℕ) (r′ : Reason) (p′ : ℕ) : Type 0 where

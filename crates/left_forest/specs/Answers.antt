@@ -1,23 +1,39 @@
--- What the call writes, in the default order, and what it answers: the checks of document 01's table from the top row down, and then the count.
+-- What the calls write and answer: the checks from the top row down, and then the count.
 -- Assumes nothing.
 use mathlib.Core.List.{List}
 use Prim.Native.Nat.{ℕ}
 use lib.ListN.{length}
+use Rattle.words.specs.Decided.{decided-order}
 use Rattle.words.specs.Compute.Factorization.{factorizationOf}
 use Rattle.words.specs.Compute.LeftForest.{leftFirstOf, leftPastOf}
 use Rattle.answer.specs.declared.Answer.{Answer}
 use Rattle.answer.specs.Answers.{acceptedWith}
-use Rattle.checks.specs.Checks.{forestChecked}
+use Rattle.checks.specs.Checks.{forestChecked, rankedForestChecked}
+use Rattle.letters.specs.Ranks.{directionOf, rowIn}
 use Rattle.factors.specs.Default.{decided-default}
+use Rattle.factors.specs.Answers.{factorsIn}
 
--- FIRST of the left forest.
+-- FIRST of the left forest, in the default order.
 abbrev pub leftFirst : List ℕ → List ℕ
 leftFirst x = leftFirstOf decided-default x (factorizationOf decided-default x)
 
--- PAST of the left forest.
+-- PAST of the left forest, in the default order.
 abbrev pub leftPast : List ℕ → List ℕ
 leftPast x = leftPastOf decided-default x (factorizationOf decided-default x)
 
 -- The left forest of x, in buffers of `in-first` and `in-past` places: refused where either is short; the count is the number of letters.
 abbrev pub leftForestAnswer : List ℕ → ℕ → ℕ → Answer
 leftForestAnswer x in-first in-past = forestChecked (length x) in-first in-past (acceptedWith (length x))
+
+-- FIRST of the left forest in an order with a rank table (document 02, E1): in order 2 that of the row of ranks, rising.
+abbrev pub leftFirstIn : ℕ → List ℕ → List ℕ → List ℕ
+leftFirstIn order table x = leftFirstOf (decided-order (directionOf order)) (rowIn order table x) (factorsIn order table x)
+
+-- And PAST (document 02, E1).
+abbrev pub leftPastIn : ℕ → List ℕ → List ℕ → List ℕ
+leftPastIn order table x = leftPastOf (decided-order (directionOf order)) (rowIn order table x) (factorsIn order table x)
+
+-- The left forest of x in such an order (document 02, E1): 3 and 16 are tested before 4; the count is the number of letters.
+abbrev pub leftForestRankedAnswer : ℕ → List ℕ → List ℕ → ℕ → ℕ → Answer
+leftForestRankedAnswer order table x in-first in-past =
+    rankedForestChecked (length x) order (length table) in-first in-past (acceptedWith (length x))

@@ -1,18 +1,18 @@
-// The left forest of a byte text in the default order, a public call with no `requires`: crate `factors`
-// writes the Lyndon suffix table, and two passes make the forest of it.
+// The left forest of a byte text, in the default order and in an order with a rank table. Public calls
+// with no `requires`: crate `factors` writes the Lyndon suffix table, and two passes make the forest of it.
 //
 // Contracts cite `specs/Answers.antt`. Nothing is assumed.
 use answer::Answer;
 use checks::Check;
-use factors::suffix_table::suffix_table;
+use factors::order;
+use factors::suffix_table::suffix_table_ranked;
 use letters::wide;
 ghost use mathlib.Core.Path.{_≡_};
-ghost use Prim.Native.Nat.{ℕ, _<_};
+ghost use Prim.Native.Nat.{ℕ};
 ghost use lib.ListN.{length};
 ghost use Rattle.answer.specs.AfterCall.{contentAfter};
-ghost use Rattle.answer.specs.Content.{TextRoom};
-ghost use Rattle.left_forest.specs.Results.{Grown};
-ghost use Rattle.left_forest.specs.Answers.{leftFirst, leftPast, leftForestAnswer};
+ghost use Rattle.left_forest.specs.Results.{Growable, Grown};
+ghost use Rattle.left_forest.specs.Answers.{leftFirst, leftPast, leftForestAnswer, leftFirstIn, leftPastIn, leftForestRankedAnswer};
 ghost use Rattle.left_forest.specs.Links.{Descends, Linked, Closes, Linkable, Crossed, OwnRoots};
 
 // The word that ends at `e` starts at `last`: from `e` down the links of FIRST, each position above
@@ -64,16 +64,38 @@ fn mark_roots(first: &mut [u32], past: &mut [u32], last: usize)
 }
 
 // Writes the left forest: PAST holds the suffix table until its words have been read. The checks of
-// `suffix_table` pass here, so that its answer need not be looked at.
-fn grow(text: &[u8], first: &mut [u32], past: &mut [u32])
-    requires { ⌜ 0 < length (now text) ⌝ }
-    requires { ⌜ TextRoom (now text) (now first) ⌝ }
-    requires { ⌜ TextRoom (now text) (now past) ⌝ }
-    ensures content { λ r. ⌜ Grown (now (text .entry)) (now (first .entry)) (now (first .exit)) (now (past .entry)) (now (past .exit)) ⌝ }
+// `suffix_table_ranked` pass here, so that its answer need not be looked at.
+fn grow(text: &[u8], order: u32, table: &[u8], first: &mut [u32], past: &mut [u32])
+    requires { ⌜ Growable order (now table) (now text) (now first) (now past) ⌝ }
+    ensures content { λ r. ⌜ Grown order (now (table .entry)) (now (text .entry)) (now (first .entry)) (now (first .exit)) (now (past .entry)) (now (past .exit)) ⌝ }
 {
-    suffix_table(text, past);
+    suffix_table_ranked(text, order, table, past);
     let last = link(first, past, text.len());
     mark_roots(first, past, last);
+}
+
+// Writes the left forest of `text`, in an order and with a rank table that order 2 looks at, into
+// `first` and `past`; the count is the number of letters.
+pub fn left_forest_ranked(
+    text: &[u8],
+    order: u32,
+    table: &[u8],
+    first: &mut [u32],
+    past: &mut [u32],
+) -> Answer
+    ensures answer { λ r. ⌜ r ≡ leftForestRankedAnswer order (now (table .entry)) (now (text .entry)) (length (now (first .entry))) (length (now (past .entry))) ⌝ }
+    ensures starts { λ r. ⌜ now (first .exit) ≡ contentAfter r (leftFirstIn order (now (table .entry)) (now (text .entry))) (now (first .entry)) ⌝ }
+    ensures ends { λ r. ⌜ now (past .exit) ≡ contentAfter r (leftPastIn order (now (table .entry)) (now (text .entry))) (now (past .entry)) ⌝ }
+{
+    let n = text.len();
+    let c = checks::ranked_forest(n, order, table.len(), first.len(), past.len());
+    match c {
+        Check::Failed { reason, position } => answer::refused(reason, position),
+        Check::Passed => {
+            grow(text, order, table, first, past);
+            answer::accepted(n as u32)
+        }
+    }
 }
 
 // Writes the left forest of `text` into `first` and `past`; the count is the number of letters.
@@ -82,13 +104,5 @@ pub fn left_forest(text: &[u8], first: &mut [u32], past: &mut [u32]) -> Answer
     ensures starts { λ r. ⌜ now (first .exit) ≡ contentAfter r (leftFirst (now (text .entry))) (now (first .entry)) ⌝ }
     ensures ends { λ r. ⌜ now (past .exit) ≡ contentAfter r (leftPast (now (text .entry))) (now (past .entry)) ⌝ }
 {
-    let n = text.len();
-    let c = checks::forest(n, first.len(), past.len());
-    match c {
-        Check::Failed { reason, position } => answer::refused(reason, position),
-        Check::Passed => {
-            grow(text, first, past);
-            answer::accepted(n as u32)
-        }
-    }
+    left_forest_ranked(text, order::DEFAULT, &text[..0], first, past)
 }

@@ -1,1 +1,4 @@
 pub mod Compared
+pub mod Ranks
+pub mod Keys
+pub mod RankLaws

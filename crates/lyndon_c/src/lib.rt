@@ -5,12 +5,13 @@ use answer::Answer;
 ghost use mathlib.Core.Path.{_≡_};
 ghost use lib.ListN.{length};
 ghost use Rattle.lyndon_c.specs.Record.{recordOf};
-ghost use Rattle.array.specs.Calls.{arrayAnswer, runsAnswer};
+ghost use Rattle.array.specs.Calls.{arrayAnswer, arrayRankedAnswer, runsAnswer, runsRankedAnswer};
 ghost use Rattle.array.specs.Theorems.{arrayAfter, listAfter, workAfter};
-ghost use Rattle.factors.specs.Answers.{factorizationAnswer, suffixTableAnswer};
-ghost use Rattle.factors.specs.Theorems.{startsAfter, tableAfter};
-ghost use Rattle.left_forest.specs.Answers.{leftForestAnswer};
-ghost use Rattle.left_forest.specs.Theorems.{leftFirstAfter, leftPastAfter};
+ghost use Rattle.array.specs.RankTheorems.{arrayRankedAfter, listRankedAfter, workRankedAfter};
+ghost use Rattle.factors.specs.Answers.{factorizationAnswer, factorizationRankedAnswer, suffixTableAnswer, suffixTableRankedAnswer};
+ghost use Rattle.factors.specs.Theorems.{startsAfter, factorsRankedAfter, tableAfter, suffixTableRankedAfter};
+ghost use Rattle.left_forest.specs.Answers.{leftForestAnswer, leftForestRankedAnswer};
+ghost use Rattle.left_forest.specs.Theorems.{leftFirstAfter, leftPastAfter, leftFirstRankedAfter, leftPastRankedAfter};
 ghost use Rattle.from_array.specs.Answers.{reconstructAnswer, rightForestAnswer};
 ghost use Rattle.from_array.specs.Theorems.{textAfter, rightFirstAfter, rightPastAfter};
 ghost use Rattle.fasta.specs.Reader.{readerAnswer, lettersAfter};
@@ -40,6 +41,20 @@ pub extern "C" fn lyndon_array_u8(text: &[u8], order: u32, out: &mut [u32]) -> L
     exported(array::bytes::lyndon_array(text, order, out))
 }
 
+// The same in order 0, 1 or 2, in order 2 by a table of ranks.
+#[no_mangle]
+pub extern "C" fn lyndon_array_ranked(
+    text: &[u8],
+    order: u32,
+    table: &[u8],
+    out: &mut [u32],
+) -> LyndonAnswer
+    ensures answer { λ r. ⌜ r ≡ recordOf (arrayRankedAnswer (length (now (text .entry))) order (length (now (table .entry))) (length (now (out .entry)))) ⌝ }
+    ensures content { λ r. ⌜ now (out .exit) ≡ arrayRankedAfter order (now (table .entry)) (now (text .entry)) (now (out .entry)) ⌝ }
+{
+    exported(array::bytes::lyndon_array_ranked(text, order, table, out))
+}
+
 // The Lyndon array of a text of 32-bit letters.
 #[no_mangle]
 pub extern "C" fn lyndon_array_u32(text: &[u32], order: u32, out: &mut [u32]) -> LyndonAnswer
@@ -59,6 +74,21 @@ pub extern "C" fn lyndon_runs(text: &[u8], work: &mut [u32], list: &mut [u32]) -
     exported(array::runs::runs(text, work, list))
 }
 
+// The same by a table of ranks.
+#[no_mangle]
+pub extern "C" fn lyndon_runs_ranked(
+    text: &[u8],
+    table: &[u8],
+    work: &mut [u32],
+    list: &mut [u32],
+) -> LyndonAnswer
+    ensures answer { λ r. ⌜ r ≡ recordOf (runsRankedAnswer (now (table .entry)) (now (text .entry)) (length (now (work .entry))) (length (now (list .entry)))) ⌝ }
+    ensures entries { λ r. ⌜ now (list .exit) ≡ listRankedAfter (now (table .entry)) (now (text .entry)) (now (work .entry)) (now (list .entry)) ⌝ }
+    ensures arrays { λ r. ⌜ now (work .exit) ≡ workRankedAfter (now (table .entry)) (now (text .entry)) (now (work .entry)) (now (list .entry)) ⌝ }
+{
+    exported(array::runs::runs_ranked(text, table, work, list))
+}
+
 // The starts of the Lyndon factors of a text of bytes.
 #[no_mangle]
 pub extern "C" fn lyndon_factorization(text: &[u8], out: &mut [u32]) -> LyndonAnswer
@@ -68,6 +98,20 @@ pub extern "C" fn lyndon_factorization(text: &[u8], out: &mut [u32]) -> LyndonAn
     exported(factors::factorization::factorization(text, out))
 }
 
+// The same in order 0, 1 or 2, in order 2 by a table of ranks.
+#[no_mangle]
+pub extern "C" fn lyndon_factorization_ranked(
+    text: &[u8],
+    order: u32,
+    table: &[u8],
+    out: &mut [u32],
+) -> LyndonAnswer
+    ensures answer { λ r. ⌜ r ≡ recordOf (factorizationRankedAnswer order (now (table .entry)) (now (text .entry)) (length (now (out .entry)))) ⌝ }
+    ensures content { λ r. ⌜ now (out .exit) ≡ factorsRankedAfter order (now (table .entry)) (now (text .entry)) (now (out .entry)) ⌝ }
+{
+    exported(factors::factorization::factorization_ranked(text, order, table, out))
+}
+
 // The Lyndon suffix table of a text of bytes.
 #[no_mangle]
 pub extern "C" fn lyndon_suffix_table(text: &[u8], out: &mut [u32]) -> LyndonAnswer
@@ -75,6 +119,20 @@ pub extern "C" fn lyndon_suffix_table(text: &[u8], out: &mut [u32]) -> LyndonAns
     ensures content { λ r. ⌜ now (out .exit) ≡ tableAfter (now (text .entry)) (now (out .entry)) ⌝ }
 {
     exported(factors::suffix_table::suffix_table(text, out))
+}
+
+// The same in order 0, 1 or 2, in order 2 by a table of ranks.
+#[no_mangle]
+pub extern "C" fn lyndon_suffix_table_ranked(
+    text: &[u8],
+    order: u32,
+    table: &[u8],
+    out: &mut [u32],
+) -> LyndonAnswer
+    ensures answer { λ r. ⌜ r ≡ recordOf (suffixTableRankedAnswer order (now (table .entry)) (now (text .entry)) (length (now (out .entry)))) ⌝ }
+    ensures content { λ r. ⌜ now (out .exit) ≡ suffixTableRankedAfter order (now (table .entry)) (now (text .entry)) (now (out .entry)) ⌝ }
+{
+    exported(factors::suffix_table::suffix_table_ranked(text, order, table, out))
 }
 
 // The left Lyndon forest of a text of bytes.
@@ -89,6 +147,22 @@ pub extern "C" fn lyndon_left_forest(
     ensures ends { λ r. ⌜ now (past .exit) ≡ leftPastAfter (now (text .entry)) (now (first .entry)) (now (past .entry)) ⌝ }
 {
     exported(left_forest::left_forest(text, first, past))
+}
+
+// The same in order 0, 1 or 2, in order 2 by a table of ranks.
+#[no_mangle]
+pub extern "C" fn lyndon_left_forest_ranked(
+    text: &[u8],
+    order: u32,
+    table: &[u8],
+    first: &mut [u32],
+    past: &mut [u32],
+) -> LyndonAnswer
+    ensures answer { λ r. ⌜ r ≡ recordOf (leftForestRankedAnswer order (now (table .entry)) (now (text .entry)) (length (now (first .entry))) (length (now (past .entry)))) ⌝ }
+    ensures starts { λ r. ⌜ now (first .exit) ≡ leftFirstRankedAfter order (now (table .entry)) (now (text .entry)) (now (first .entry)) (now (past .entry)) ⌝ }
+    ensures ends { λ r. ⌜ now (past .exit) ≡ leftPastRankedAfter order (now (table .entry)) (now (text .entry)) (now (first .entry)) (now (past .entry)) ⌝ }
+{
+    exported(left_forest::left_forest_ranked(text, order, table, first, past))
 }
 
 // The right Lyndon forest of every text that has the array.

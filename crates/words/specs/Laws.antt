@@ -33,6 +33,7 @@ pub mod RunListing
 pub mod RunOrders
 pub mod RunMarks
 pub mod EachRunOnce
+pub mod ListedAlike
 pub mod ValidArray
 pub mod Repetition
 pub mod LowestSuffix

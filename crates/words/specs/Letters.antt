@@ -47,7 +47,7 @@ abbrev pub falling : Letters {0, 0} ℕ
 falling = reversed rising
 
 -- The order that an order number stands for (document 01: order 0 is rising, order 1 falling). Every number but 0 gives falling here; the
--- calls refuse a number above 1.
+-- calls never ask for the order of a number above 1.
 abbrev pub orderOf : ℕ → Letters {0, 0} ℕ
 orderOf zero = rising
 orderOf (suc k) = falling

@@ -7,22 +7,14 @@ pub mod lister;
 use crate::definitions::Expected;
 use lyndon::{Error, Order};
 
-extern "C" {
-    fn lyndon_array_u8(text: *const u8, n: usize, order: u32, out: *mut u32, out_len: usize) -> Record;
-    fn lyndon_array_u32(text: *const u32, n: usize, order: u32, out: *mut u32, out_len: usize) -> Record;
-}
+/// The C interface with slices for pointers, as the crate itself has it: here any order number and any table can be asked for.
+#[path = "../../src/ffi.rs"]
+mod ffi;
 
-/// The record of the C interface.
-#[repr(C)]
-struct Record {
-    number: u32,
-    value: u32,
-}
-
-fn result(record: Record) -> Result<usize, Error> {
-    match record.number {
-        0 => Ok(record.value as usize),
-        number => Err(Error { number, position: record.value }),
+fn result(answer: ffi::Answer) -> Result<usize, Error> {
+    match answer.number {
+        0 => Ok(answer.value as usize),
+        number => Err(Error { number, position: answer.value }),
     }
 }
 
@@ -99,7 +91,7 @@ pub fn array8(text: &[u8], order: u32, out: &mut [u32]) -> Result<usize, Error> 
     fill(out);
     kept(text, || match order_of(order) {
         Some(order) => lyndon::lyndon_array_into(text, order, out),
-        None => result(unsafe { lyndon_array_u8(text.as_ptr(), text.len(), order, out.as_mut_ptr(), out.len()) }),
+        None => result(ffi::array_u8(text, order, out)),
     })
 }
 
@@ -107,7 +99,7 @@ pub fn array32(text: &[u32], order: u32, out: &mut [u32]) -> Result<usize, Error
     fill(out);
     kept(text, || match order_of(order) {
         Some(order) => lyndon::lyndon_array_u32_into(text, order, out),
-        None => result(unsafe { lyndon_array_u32(text.as_ptr(), text.len(), order, out.as_mut_ptr(), out.len()) }),
+        None => result(ffi::array_u32(text, order, out)),
     })
 }
 
@@ -144,6 +136,40 @@ pub fn runs(text: &[u8], work: &mut [u32], list: &mut [u32]) -> Result<usize, Er
     kept(text, || lyndon::runs_into(text, work, list))
 }
 
+// The ranked calls, all by the C interface: it alone takes a table of any length.
+
+/// A ranked call that writes one buffer: text, order number, table, buffer.
+pub type RankedCall = fn(&[u8], u32, &[u8], &mut [u32]) -> Result<usize, Error>;
+
+pub const RANKED_CALLS: [RankedCall; 3] = [array_ranked, factors_ranked, suffix_table_ranked];
+
+pub fn array_ranked(text: &[u8], order: u32, table: &[u8], out: &mut [u32]) -> Result<usize, Error> {
+    fill(out);
+    kept(text, || kept(table, || result(ffi::array_ranked(text, order, table, out))))
+}
+
+pub fn factors_ranked(text: &[u8], order: u32, table: &[u8], out: &mut [u32]) -> Result<usize, Error> {
+    fill(out);
+    kept(text, || kept(table, || result(ffi::factorization_ranked(text, order, table, out))))
+}
+
+pub fn suffix_table_ranked(text: &[u8], order: u32, table: &[u8], out: &mut [u32]) -> Result<usize, Error> {
+    fill(out);
+    kept(text, || kept(table, || result(ffi::suffix_table_ranked(text, order, table, out))))
+}
+
+pub fn left_forest_ranked(text: &[u8], order: u32, table: &[u8], first: &mut [u32], past: &mut [u32]) -> Result<usize, Error> {
+    fill(first);
+    fill(past);
+    kept(text, || kept(table, || result(ffi::left_forest_ranked(text, order, table, first, past))))
+}
+
+pub fn runs_ranked(text: &[u8], table: &[u8], work: &mut [u32], list: &mut [u32]) -> Result<usize, Error> {
+    fill(work);
+    fill(list);
+    kept(text, || kept(table, || result(ffi::runs_ranked(text, table, work, list))))
+}
+
 pub fn read_fasta(input: &[u8], letters: &mut [u8]) -> Result<usize, Error> {
     fill(letters);
     kept(input, || lyndon::read_fasta_into(input, letters))
@@ -178,6 +204,45 @@ impl Numbers {
     pub fn text(&mut self, alphabet: &[u8], n: usize) -> Vec<u8> {
         (0..n).map(|_| self.pick(alphabet)).collect()
     }
+
+    /// All bytes, in any order.
+    pub fn shuffled_bytes(&mut self) -> Vec<u8> {
+        let mut bytes: Vec<u8> = (0..=255).collect();
+        for i in (1..bytes.len()).rev() {
+            bytes.swap(i, self.below(i + 1));
+        }
+        bytes
+    }
+}
+
+/// What a ranked call is given.
+pub struct RankedInput {
+    pub text: Vec<u8>,
+    pub order: u32,
+    pub table: Vec<u8>,
+}
+
+/// Three inputs on which a ranked call answers what it answers on `x` in order 0: `x` in order 0 and its complement in order 1, with tables
+/// that are not to be looked at, and in order 2 letters whose ranks are `x`, several to a rank where `x` leaves some over.
+pub fn ranked_inputs(numbers: &mut Numbers, x: &[u8]) -> [RankedInput; 3] {
+    let mut unused_table = || {
+        let entries = numbers.pick(&[0, 255, 256, 257]);
+        numbers.text(&[0, 1, 255], entries)
+    };
+    let rising = RankedInput { text: x.to_vec(), order: 0, table: unused_table() };
+    let falling = RankedInput { text: x.iter().map(|&letter| 255 - letter).collect(), order: 1, table: unused_table() };
+
+    let mut ranks = x.to_vec();
+    ranks.sort_unstable();
+    ranks.dedup();
+    let (mut table, mut letters) = (vec![0; 256], vec![vec![]; 256]);
+    for (i, letter) in numbers.shuffled_bytes().into_iter().enumerate() {
+        let rank = if i < ranks.len() { ranks[i] } else { numbers.pick(if ranks.is_empty() { &[0] } else { &ranks }) };
+        table[usize::from(letter)] = rank;
+        letters[usize::from(rank)].push(letter);
+    }
+    let text = x.iter().map(|&rank| numbers.pick(&letters[usize::from(rank)])).collect();
+    [rising, falling, RankedInput { text, order: 2, table }]
 }
 
 pub fn fibonacci(n: usize) -> Vec<u8> {

@@ -50,23 +50,23 @@ pub fn array<L: Ord>(order: u32, x: &[L]) -> Vec<u32> {
 }
 
 /// Entry j is the length of the longest Lyndon word that ends at j.
-pub fn suffix_table(x: &[u8]) -> Vec<u32> {
-    (0..x.len()).map(|j| j + 1 - (0..=j).find(|&i| is_lyndon(0, &x[i..=j])).unwrap()).map(|l| l as u32).collect()
+pub fn suffix_table(order: u32, x: &[u8]) -> Vec<u32> {
+    (0..x.len()).map(|j| j + 1 - (0..=j).find(|&i| is_lyndon(order, &x[i..=j])).unwrap()).map(|l| l as u32).collect()
 }
 
 /// The starts of the factors: all ways to cut the text into Lyndon words none of which is smaller than the next; there is one.
-pub fn factors(x: &[u8]) -> Vec<u32> {
+pub fn factors(order: u32, x: &[u8]) -> Vec<u32> {
     let n = x.len();
     // ways[i]: the ends of the factors of each way to cut what starts at i.
     let mut ways: Vec<Vec<Vec<usize>>> = vec![vec![]; n + 1];
     ways[n] = vec![vec![]];
     for i in (0..n).rev() {
         for e in i + 1..=n {
-            if !is_lyndon(0, &x[i..e]) {
+            if !is_lyndon(order, &x[i..e]) {
                 continue;
             }
             for rest in ways[e].clone() {
-                if !rest.first().is_some_and(|&next| word_less(0, &x[i..e], &x[e..next])) {
+                if !rest.first().is_some_and(|&next| word_less(order, &x[i..e], &x[e..next])) {
                     let mut way = vec![e];
                     way.extend(rest);
                     ways[i].push(way);
@@ -80,16 +80,16 @@ pub fn factors(x: &[u8]) -> Vec<u32> {
 }
 
 /// The spans of the factors.
-fn factor_spans(x: &[u8]) -> Vec<(usize, usize)> {
-    let starts = factors(x);
+fn factor_spans(order: u32, x: &[u8]) -> Vec<(usize, usize)> {
+    let starts = factors(order, x);
     let ends = starts[1..].iter().map(|&e| e as usize).chain(std::iter::once(x.len()));
     starts.iter().map(|&s| s as usize).zip(ends).collect()
 }
 
 /// FIRST and PAST of a forest, by the rule that cuts a word of two letters or more.
-fn forest(x: &[u8], cut: impl Fn(&[u8]) -> usize) -> (Vec<u32>, Vec<u32>) {
+fn forest(order: u32, x: &[u8], cut: impl Fn(&[u8]) -> usize) -> (Vec<u32>, Vec<u32>) {
     let (mut first, mut past) = (vec![0; x.len()], vec![0; x.len()]);
-    let mut open = factor_spans(x);
+    let mut open = factor_spans(order, x);
     for &(start, _) in &open {
         first[start] = start as u32;
         past[start] = start as u32;
@@ -107,13 +107,13 @@ fn forest(x: &[u8], cut: impl Fn(&[u8]) -> usize) -> (Vec<u32>, Vec<u32>) {
 }
 
 /// u is the longest proper Lyndon prefix.
-pub fn left_forest(x: &[u8]) -> (Vec<u32>, Vec<u32>) {
-    forest(x, |w| (1..w.len()).rev().find(|&k| is_lyndon(0, &w[..k])).unwrap())
+pub fn left_forest(order: u32, x: &[u8]) -> (Vec<u32>, Vec<u32>) {
+    forest(order, x, |w| (1..w.len()).rev().find(|&k| is_lyndon(order, &w[..k])).unwrap())
 }
 
 /// v is the longest proper Lyndon suffix.
 pub fn right_forest(x: &[u8]) -> (Vec<u32>, Vec<u32>) {
-    forest(x, |w| (1..w.len()).find(|&k| is_lyndon(0, &w[k..])).unwrap())
+    forest(0, x, |w| (1..w.len()).find(|&k| is_lyndon(0, &w[k..])).unwrap())
 }
 
 /// The smallest period of a word.
@@ -238,64 +238,100 @@ pub fn listing(input: &[u8], runs: impl Fn(&[u8]) -> Vec<u32>) -> Vec<u8> {
 
 // The answers of the other calls: the checks of the table from the top row down, then the definition
 
-fn length_fault(n: usize) -> Option<u32> {
-    match n {
-        0 => Some(1),
-        _ if n > MAX_LENGTH => Some(2),
-        _ => None,
-    }
+type Faults = Vec<(bool, u32)>;
+
+/// The first check that refuses, if one does.
+fn refusal<T>(rows: &[Faults]) -> Option<Expected<T>> {
+    rows.concat().iter().find(|fault| fault.0).map(|fault| refused(fault.1, 0))
 }
 
-fn checked<T>(faults: &[(bool, u32)]) -> Option<Expected<T>> {
-    faults.iter().find(|fault| fault.0).map(|fault| refused(fault.1, 0))
+fn length(n: usize) -> Faults {
+    vec![(n == 0, 1), (n > MAX_LENGTH, 2)]
 }
 
-/// The checks of length, order and output lengths.
-fn plain_checks(n: usize, order: u32, places: &[usize]) -> Option<Expected<u32>> {
-    if let Some(number) = length_fault(n) {
-        return Some(refused(number, 0));
-    }
-    checked(&[(order > 1, 3), (places.iter().any(|&p| p < n), 4)])
+fn order_number(order: u32) -> Faults {
+    vec![(order > 1, 3)]
 }
 
-pub fn array_answer<L: Ord>(x: &[L], order: u32, places: usize) -> Expected<u32> {
-    plain_checks(x.len(), order, &[places]).unwrap_or_else(|| Accepted { count: x.len(), written: vec![array(order, x)] })
+fn rank_table(table: &[u8]) -> Faults {
+    vec![(table.len() != 256, 16)]
 }
 
-pub fn factors_answer(x: &[u8], places: usize) -> Expected<u32> {
-    plain_checks(x.len(), 0, &[places]).unwrap_or_else(|| {
-        let starts = factors(x);
-        Accepted { count: starts.len(), written: vec![starts] }
-    })
+/// The order number of a ranked call, and the table where it is to be used.
+fn ranked_order(order: u32, table: &[u8]) -> Faults {
+    [vec![(order > 2, 3)], if order == 2 { rank_table(table) } else { vec![] }].concat()
 }
 
-pub fn suffix_table_answer(x: &[u8], places: usize) -> Expected<u32> {
-    plain_checks(x.len(), 0, &[places]).unwrap_or_else(|| Accepted { count: x.len(), written: vec![suffix_table(x)] })
+fn outputs(n: usize, places: &[usize]) -> Faults {
+    vec![(places.iter().any(|&p| p < n), 4)]
 }
 
-pub fn left_forest_answer(x: &[u8], first: usize, past: usize) -> Expected<u32> {
-    plain_checks(x.len(), 0, &[first, past]).unwrap_or_else(|| {
-        let (first, past) = left_forest(x);
-        Accepted { count: x.len(), written: vec![first, past] }
-    })
+fn run_buffers(n: usize, work: usize, list: usize) -> Faults {
+    vec![(list < 6 * n, 4), (work < 2 * n, 5)]
+}
+
+// What an accepted call answers and writes
+
+pub fn array_accepted<L: Ord>(order: u32, x: &[L]) -> Expected<u32> {
+    Accepted { count: x.len(), written: vec![array(order, x)] }
+}
+
+pub fn factors_accepted(order: u32, x: &[u8]) -> Expected<u32> {
+    let starts = factors(order, x);
+    Accepted { count: starts.len(), written: vec![starts] }
+}
+
+pub fn suffix_table_accepted(order: u32, x: &[u8]) -> Expected<u32> {
+    Accepted { count: x.len(), written: vec![suffix_table(order, x)] }
+}
+
+pub fn left_forest_accepted(order: u32, x: &[u8]) -> Expected<u32> {
+    let (first, past) = left_forest(order, x);
+    Accepted { count: x.len(), written: vec![first, past] }
 }
 
 /// Buffers in the order work, list.
-pub fn runs_answer(x: &[u8], work: usize, list: usize) -> Expected<u32> {
-    let n = x.len();
-    if let Some(number) = length_fault(n) {
-        return refused(number, 0);
-    }
-    if let Some(answer) = checked(&[(list < 6 * n, 4), (work < 2 * n, 5)]) {
-        return answer;
-    }
+fn runs_accepted(x: &[u8]) -> Expected<u32> {
     let runs = runs(x);
     let arrays = [array(0, x), array(1, x)].concat();
     Accepted { count: runs.len() / 3, written: vec![arrays, runs] }
 }
 
+pub fn array_answer<L: Ord>(x: &[L], order: u32, places: usize) -> Expected<u32> {
+    refusal(&[length(x.len()), order_number(order), outputs(x.len(), &[places])]).unwrap_or_else(|| array_accepted(order, x))
+}
+
+/// The answer of a call in the default order, by what it is accepted with.
+pub fn rising_answer(x: &[u8], places: &[usize], accepted: fn(u32, &[u8]) -> Expected<u32>) -> Expected<u32> {
+    refusal(&[length(x.len()), outputs(x.len(), places)]).unwrap_or_else(|| accepted(0, x))
+}
+
+pub fn runs_answer(x: &[u8], work: usize, list: usize) -> Expected<u32> {
+    refusal(&[length(x.len()), run_buffers(x.len(), work, list)]).unwrap_or_else(|| runs_accepted(x))
+}
+
+/// The row of ranks of a text.
+pub fn row(table: &[u8], x: &[u8]) -> Vec<u8> {
+    x.iter().map(|&letter| table[usize::from(letter)]).collect()
+}
+
+/// The answer of a ranked call, by what it is accepted with: in order 2 that of order 0 for the row of ranks.
+pub fn ranked_answer(x: &[u8], order: u32, table: &[u8], places: &[usize], accepted: fn(u32, &[u8]) -> Expected<u32>) -> Expected<u32> {
+    refusal(&[length(x.len()), ranked_order(order, table), outputs(x.len(), places)]).unwrap_or_else(|| {
+        if order == 2 {
+            accepted(0, &row(table, x))
+        } else {
+            accepted(order, x)
+        }
+    })
+}
+
+pub fn runs_ranked_answer(x: &[u8], table: &[u8], work: usize, list: usize) -> Expected<u32> {
+    refusal(&[length(x.len()), rank_table(table), run_buffers(x.len(), work, list)]).unwrap_or_else(|| runs_accepted(&row(table, x)))
+}
+
 fn array_checks(a: &[u32], places: &[usize]) -> Option<Expected<u32>> {
-    plain_checks(a.len(), 0, places).or_else(|| fault(a).map(|(number, i)| refused(number, i)))
+    refusal(&[length(a.len()), outputs(a.len(), places)]).or_else(|| fault(a).map(|(number, i)| refused(number, i)))
 }
 
 pub fn reconstruct_answer(a: &[u32], places: usize) -> Expected<u32> {

@@ -249,3 +249,29 @@ pub fn runs_by_extensions(x: &[u8]) -> Vec<u32> {
     found.dedup_by_key(|run| (run.0, run.1));
     found.iter().flat_map(|&(start, last, p)| [start as u32, last as u32, p as u32]).collect()
 }
+
+/// What the calls write for a text; for an empty one nothing.
+#[derive(Default)]
+pub struct Lists {
+    pub arrays: [Vec<u32>; 2],
+    pub factors: Vec<u32>,
+    pub suffix_table: Vec<u32>,
+    pub first: Vec<u32>,
+    pub past: Vec<u32>,
+    pub runs: Vec<u32>,
+}
+
+impl Lists {
+    pub fn of(x: &[u8], runs: fn(&[u8]) -> Vec<u32>) -> Lists {
+        if x.is_empty() {
+            return Lists::default();
+        }
+        let (suffix_table, first, past) = suffix_table_and_left_forest(x);
+        Lists { arrays: [array(0, x), array(1, x)], factors: factors(x), suffix_table, first, past, runs: runs(x) }
+    }
+
+    /// What those calls write that have one buffer and a ranked form.
+    pub fn ranked(&self) -> [&[u32]; 3] {
+        [&self.arrays[0], &self.factors, &self.suffix_table]
+    }
+}

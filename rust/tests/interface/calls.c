@@ -9,8 +9,7 @@
 #define MARK 0xa5a5a5a5u
 #define PLACES 64
 
-static const char *const sample = "aabaab";
-static uint8_t text[PLACES], text_before[PLACES], letters[4096];
+static uint8_t text[PLACES], text_before[PLACES], letters[4096], ranks[256], ranks_before[256];
 static uint32_t numbers[PLACES], numbers_before[PLACES], first[PLACES], second[PLACES];
 static unsigned calls;
 
@@ -27,15 +26,22 @@ static void start(const uint32_t *content, size_t n) {
         first[i] = second[i] = MARK;
     }
     memset(letters, 0xa5, sizeof letters);
+    /* By rank the two cases are one letter, and b comes before a. */
+    memset(ranks, 2, sizeof ranks);
+    ranks['b'] = ranks['B'] = 0, ranks['a'] = ranks['A'] = 1;
+    memcpy(ranks_before, ranks, sizeof ranks);
     memcpy(text_before, text, sizeof text);
     memcpy(numbers_before, numbers, sizeof numbers);
 }
 
-static void start_sample(void) {
-    uint32_t content[6];
-    for (size_t i = 0; i < 6; i++) content[i] = (uint8_t)sample[i];
-    start(content, 6);
+static void start_text(const char *content) {
+    uint32_t codes[PLACES];
+    size_t n = strlen(content);
+    for (size_t i = 0; i < n; i++) codes[i] = (uint8_t)content[i];
+    start(codes, n);
 }
+
+static void start_sample(void) { start_text("aabaab"); }
 
 static void answered(lyndon_answer answer, uint32_t number, uint32_t value) {
     calls++;
@@ -43,13 +49,25 @@ static void answered(lyndon_answer answer, uint32_t number, uint32_t value) {
         fprintf(stderr, "call %u: answer %u, %u; expected %u, %u\n", calls, answer.number, answer.value, number, value);
         exit(1);
     }
-    if (memcmp(text, text_before, sizeof text) != 0 || memcmp(numbers, numbers_before, sizeof numbers) != 0) fail("an input has changed");
+    if (memcmp(text, text_before, sizeof text) != 0 || memcmp(numbers, numbers_before, sizeof numbers) != 0 ||
+        memcmp(ranks, ranks_before, sizeof ranks) != 0)
+        fail("an input has changed");
 }
 
 /* A buffer begins with these numbers, and has its marks behind them. */
 static void holds(const uint32_t *buffer, const uint32_t *content, size_t n) {
     for (size_t i = 0; i < PLACES; i++)
         if (buffer[i] != (i < n ? content[i] : MARK)) fail("a buffer is not what it should be");
+}
+
+/* The ranked calls that take an order, all refused with one number. */
+static void refused_ranked(const uint8_t *x, size_t n, uint32_t order, const uint8_t *table, size_t table_len, uint32_t *out, size_t out_len,
+    uint32_t number) {
+    answered(lyndon_array_ranked(x, n, order, table, table_len, out, out_len), number, 0);
+    answered(lyndon_factorization_ranked(x, n, order, table, table_len, out, out_len), number, 0);
+    answered(lyndon_suffix_table_ranked(x, n, order, table, table_len, out, out_len), number, 0);
+    answered(lyndon_left_forest_ranked(x, n, order, table, table_len, out, out_len, second, PLACES), number, 0);
+    answered(lyndon_left_forest_ranked(x, n, order, table, table_len, second, PLACES, out, out_len), number, 0);
 }
 
 /* Every call on a text or an array of no elements, all pointers null. */
@@ -65,9 +83,12 @@ static void of_nothing(void) {
     answered(lyndon_right_forest(NULL, 0, NULL, 0, NULL, 0), 1, 0);
     answered(lyndon_reconstruct(NULL, 0, NULL, 0), 1, 0);
     answered(lyndon_runs(NULL, 0, NULL, 0, NULL, 0), 1, 0);
+    for (uint32_t order = 0; order < 4; order++) refused_ranked(NULL, 0, order, NULL, 0, NULL, 0, 1);
+    answered(lyndon_runs_ranked(NULL, 0, NULL, 0, NULL, 0, NULL, 0), 1, 0);
     answered(lyndon_read_fasta(NULL, 0, NULL, 0), 4, 0);
     answered(lyndon_read_fasta(NULL, 0, letters, sizeof letters), 9, 0);
     holds(first, NULL, 0);
+    holds(second, NULL, 0);
 }
 
 /* Every call on a text of six letters, buffers null. */
@@ -87,6 +108,12 @@ static void into_nothing(void) {
     answered(lyndon_runs(text, 6, first, PLACES, NULL, 0), 4, 0);
     answered(lyndon_runs(text, 6, NULL, 0, second, PLACES), 5, 0);
     answered(lyndon_read_fasta(text, 6, NULL, 0), 4, 0);
+    for (uint32_t order = 0; order < 3; order++) refused_ranked(text, 6, order, ranks, 256, NULL, 0, 4);
+    refused_ranked(text, 6, LYNDON_RANKED, NULL, 0, NULL, 0, 16);
+    refused_ranked(text, 6, 3, NULL, 0, NULL, 0, 3);
+    answered(lyndon_runs_ranked(text, 6, NULL, 0, NULL, 0, NULL, 0), 16, 0);
+    answered(lyndon_runs_ranked(text, 6, ranks, 256, first, PLACES, NULL, 0), 4, 0);
+    answered(lyndon_runs_ranked(text, 6, ranks, 256, NULL, 0, second, PLACES), 5, 0);
     holds(first, NULL, 0);
     holds(second, NULL, 0);
 }
@@ -122,6 +149,35 @@ static void of_a_text(void) {
     holds(second, runs, 9);
 }
 
+/* The ranked calls on two texts that have one answer: by rank the first is a text of two letters, b before a, as the second is in falling
+ * order, with no table. */
+static void of_ranked_texts(void) {
+    static const struct { const char *content; uint32_t order; const uint8_t *table; size_t table_len; } ways[] = {
+        {"aAbaAB", LYNDON_RANKED, ranks, 256}, {"aabaab", LYNDON_FALLING, NULL, 0}};
+    static const uint32_t array[] = {1, 1, 3, 1, 1, 1}, starts[] = {0, 1, 2, 5}, table[] = {1, 1, 1, 2, 3, 1};
+    static const uint32_t left_first[] = {0, 1, 2, 2, 2, 5}, left_past[] = {0, 1, 2, 4, 5, 5};
+    static const uint32_t both[] = {1, 1, 3, 1, 1, 1, 3, 2, 1, 3, 2, 1}, runs[] = {0, 1, 1, 0, 5, 3, 3, 4, 1};
+    for (size_t w = 0; w < sizeof ways / sizeof ways[0]; w++) {
+        start_text(ways[w].content);
+        answered(lyndon_array_ranked(text, 6, ways[w].order, ways[w].table, ways[w].table_len, first, PLACES), 0, 6);
+        holds(first, array, 6);
+        start_text(ways[w].content);
+        answered(lyndon_factorization_ranked(text, 6, ways[w].order, ways[w].table, ways[w].table_len, first, PLACES), 0, 4);
+        holds(first, starts, 4);
+        start_text(ways[w].content);
+        answered(lyndon_suffix_table_ranked(text, 6, ways[w].order, ways[w].table, ways[w].table_len, first, PLACES), 0, 6);
+        holds(first, table, 6);
+        start_text(ways[w].content);
+        answered(lyndon_left_forest_ranked(text, 6, ways[w].order, ways[w].table, ways[w].table_len, first, PLACES, second, PLACES), 0, 6);
+        holds(first, left_first, 6);
+        holds(second, left_past, 6);
+    }
+    start_text(ways[0].content);
+    answered(lyndon_runs_ranked(text, 6, ranks, 256, first, PLACES, second, PLACES), 0, 3);
+    holds(first, both, 12);
+    holds(second, runs, 9);
+}
+
 /* K8, K9, K10 and K11 of the specification. */
 static void forests_and_texts(void) {
     static const uint32_t aabb[] = {'a', 'a', 'b', 'b'}, left_first[] = {0, 0, 1, 0}, left_past[] = {0, 3, 3, 4};
@@ -147,16 +203,11 @@ static void forests_and_texts(void) {
 
 static void of_a_record(void) {
     static const char record[] = ">m1 a name\nAC\r\ngt\n", unfit[] = ">m1\nAC-GT\n";
-    uint32_t content[PLACES];
-    size_t n = sizeof record - 1;
-    for (size_t i = 0; i < n; i++) content[i] = (uint8_t)record[i];
-    start(content, n);
-    answered(lyndon_read_fasta(text, n, letters, 2048), 0, 4);
+    start_text(record);
+    answered(lyndon_read_fasta(text, sizeof record - 1, letters, 2048), 0, 4);
     if (memcmp(letters, "ACGT", 4) != 0 || letters[4] != 0xa5) fail("the letters are not those of the record");
-    n = sizeof unfit - 1;
-    for (size_t i = 0; i < n; i++) content[i] = (uint8_t)unfit[i];
-    start(content, n);
-    answered(lyndon_read_fasta(text, n, letters, 2048), 11, 6);
+    start_text(unfit);
+    answered(lyndon_read_fasta(text, sizeof unfit - 1, letters, 2048), 11, 6);
     if (letters[0] != 0xa5) fail("a refusal has written letters");
 }
 
@@ -164,6 +215,7 @@ int main(void) {
     of_nothing();
     into_nothing();
     of_a_text();
+    of_ranked_texts();
     forests_and_texts();
     of_a_record();
     printf("%u calls\n", calls);

@@ -4,7 +4,9 @@ use mathlib.Core.Path.{_≡_}
 use mathlib.Core.List.{List}
 use Prim.Native.Nat.{ℕ, _<_, _≤_}
 use lib.ListN.{length, getD}
-use Rattle.answer.specs.Content.{Kept, From}
+use Rattle.answer.specs.Content.{Kept, From, TextRoom}
+use Rattle.checks.specs.declared.Check.{Check}
+use Rattle.checks.specs.declared.Check.the-variants.{Passed}
 use Rattle.array.specs.Core.Rows.{entryOf, RowsOf}
 
 -- The positions from i on have been joined.
@@ -24,3 +26,7 @@ pub record HasRows (buf : List ℕ) (n : ℕ) : Type 0 where
 pub record AllRestored (before after : List ℕ) (n : ℕ) : Type 0 where
   pub others : Kept (From n) before after
   pub final : (order : ℕ) (x : List ℕ) → length x ≡ n → RowsOf order x before 0 → (t : ℕ) → t < n → getD after t 0 ≡ entryOf order x t
+
+-- Where the checks have passed there is room for the array.
+pub record RoomWhere (c : Check) (x out : List ℕ) : Type 0 where
+  pub room : c ≡ Passed → TextRoom x out

@@ -7,7 +7,7 @@ use lib.ListN.{length, getD}
 use Rattle.words.specs.Laws.Position.{Agree}
 use Rattle.words.specs.Laws.SpanLyndon.{letters}
 use Rattle.words.specs.Laws.SuffixOrder.{NextSmaller}
-use Rattle.words.specs.Letters.{orderOf}
+use Rattle.words.specs.Letters.{rising}
 use Rattle.letters.specs.declared.Comparison.{Comparison}
 use Rattle.letters.specs.declared.Comparison.the-variants.{Below, Same, Above}
 use Rattle.array.specs.Core.Join.{Stopped, Agreeing}
@@ -42,7 +42,7 @@ pub record LeftExtent (x : List ℕ) (i p s : ℕ) : Type 0 where
   pub left-stops : (t : ℕ) → s ≡ suc t → ¬ (letters 0 x t ≡ letters 0 x (t + p))
 
 -- The next smaller suffix after i is at j, the two agree on k letters and no more, and k is less than their distance.
-pub record AtRoot (order : ℕ) (x : List ℕ) (i j k : ℕ) : Type 0 where
-  pub next : NextSmaller (orderOf order) (letters 0 x) (length x) i j
+pub record AtRoot (x : List ℕ) (i j k : ℕ) : Type 0 where
+  pub next : NextSmaller rising (letters 0 x) (length x) i j
   pub exact : Exact x i j k
   pub short : i + k < j

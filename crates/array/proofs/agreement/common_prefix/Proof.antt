@@ -3,27 +3,32 @@
 use borrow.Author.Needs.{needs}
 use Prim.Native.Nat.{_-_}
 use lib.ListN.{length}
-use Rattle.array.proofs.CommonPrefixLaws.{AlikeBelow, alike-none, alike-more, alike-differs, alike-left-ends, alike-right-ends}
+use Rattle.letters.specs.Ranks.{rankRow}
+use Rattle.array.proofs.CommonPrefixLaws.{AlikeBelow, alike-none}
+use Rattle.array.proofs.RankedAgreement.{ranked-alike, ranked-differs, left-ends, right-ends}
 use Rattle.array.proofs.agreement.common_prefix.Statement.{statement}
 use Rattle.array.proofs.agreement.common_prefix.Tie as tie
 
 abbrev Inv-loop : tie.InvT-loop
-Inv-loop u v k₀ k = AlikeBelow u v k
+Inv-loop keys u v k₀ k = AlikeBelow (rankRow keys u) (rankRow keys v) k
 
 abbrev μ-loop : tie.MeasureT-loop
-μ-loop u v k₀ k = length u - k
+μ-loop keys u v k₀ k = length u - k
 
 loop-holds : tie.Need-loop-holds Inv-loop μ-loop
 loop-holds c = alike-none _ _
 
-shared-slice-read-if2 : tie.Need-shared-slice-read-if2 Inv-loop μ-loop
-shared-slice-read-if2 c = search needs
+shared-slice-read-differ : tie.Need-shared-slice-read-differ Inv-loop μ-loop
+shared-slice-read-differ c = search needs
 
-shared-slice-read-if2-2 : tie.Need-shared-slice-read-if2-2 Inv-loop μ-loop
-shared-slice-read-if2-2 c = search needs
+shared-slice-read-differ-2 : tie.Need-shared-slice-read-differ-2 Inv-loop μ-loop
+shared-slice-read-differ-2 c = search needs
+
+differ-requires : tie.Need-differ-requires Inv-loop μ-loop
+differ-requires c κs = search needs
 
 returns : tie.Need-returns Inv-loop μ-loop
-returns c = search alike-differs
+returns c = search ranked-differs
 
 add-k : tie.Need-add-k Inv-loop μ-loop
 add-k c = search needs
@@ -32,13 +37,13 @@ loop-less : tie.Need-loop-less Inv-loop μ-loop
 loop-less c = search needs
 
 loop-again : tie.Need-loop-again Inv-loop μ-loop
-loop-again c = search alike-more
+loop-again c = search ranked-alike
 
 returns-2 : tie.Need-returns-2 Inv-loop μ-loop
-returns-2 c = search alike-right-ends
+returns-2 c = search right-ends
 
 returns-3 : tie.Need-returns-3 Inv-loop μ-loop
-returns-3 c = search alike-left-ends
+returns-3 c = search left-ends
 
 pub common-prefix-spec : {M : Type 1} → statement M
 common-prefix-spec =
@@ -47,8 +52,9 @@ common-prefix-spec =
     Inv-loop
     μ-loop
     loop-holds
-    shared-slice-read-if2
-    shared-slice-read-if2-2
+    shared-slice-read-differ
+    shared-slice-read-differ-2
+    differ-requires
     returns
     add-k
     loop-less

@@ -4,20 +4,25 @@ use borrow.Author.Needs.{needs}
 use native.Mathlib.Omega.{arith}
 use Prim.Native.Nat.{_≤_}
 use lib.ListN.{length}
+use Rattle.letters.specs.Ranks.{rankRow}
 use Rattle.array.specs.Core.Fill.{Filled}
 use Rattle.array.proofs.ArrayWritten.{filled-rows, array-written}
 use Rattle.array.proofs.Filling.{filled-start, filled-ready, filled-store-ready, filled-step}
+use Rattle.array.proofs.RankedLetters.{row-size}
 use Rattle.array.proofs.bytes.compute.Statement.{statement}
 use Rattle.array.proofs.bytes.compute.Tie as tie
 
 abbrev Inv-loop : tie.InvT-loop
-Inv-loop text order buf₀ i₀ buf i = (i ≤ length text) × Filled order text buf₀ buf i
+Inv-loop text keys buf₀ i₀ buf i = (i ≤ length (rankRow keys text)) × Filled 0 (rankRow keys text) buf₀ buf i
 
 abbrev μ-loop : tie.MeasureT-loop
-μ-loop text order buf₀ i₀ buf i = i
+μ-loop text keys buf₀ i₀ buf i = i
 
 loop-holds : tie.Need-loop-holds Inv-loop μ-loop
-loop-holds c = (omega arith, filled-start _ _ _)
+loop-holds c =
+    let args = c .before .before .args in
+    let size = row-size (args .keys .now) (args .text .now) in
+    (omega (arith, size), filled-start _ _ _ _ size)
 
 sub-i : tie.Need-sub-i Inv-loop μ-loop
 sub-i c = search needs
@@ -35,13 +40,13 @@ loop-again : tie.Need-loop-again Inv-loop μ-loop
 loop-again c = (omega arith, search filled-step)
 
 restore-all-requires : tie.Need-restore-all-requires Inv-loop μ-loop
-restore-all-requires c κs = search filled-rows
+restore-all-requires c κs = search (filled-rows, row-size)
 
 same-length : tie.Need-same-length Inv-loop μ-loop
 same-length c = search needs
 
 returns : tie.Need-returns Inv-loop μ-loop
-returns c = search array-written
+returns c = search (array-written 0, row-size)
 
 pub compute-spec : {M : Type 1} → statement M
 compute-spec =

@@ -1,11 +1,8 @@
--- `array::bytes::lyndon_array` meets its contract: the checks give the answer, and the array is written where they pass.
+-- `array::bytes::lyndon_array` meets its contract: the answer is that of the checks, and the keys are those of the order.
 -- Assumes nothing.
-use mathlib.Core.Path.{sym, _∙_}
-use native.Mathlib.Omega.{arith}
-use Rattle.checks.specs.CheckLaws.{passing, failing}
-use Rattle.answer.specs.AfterLaws.{content-refused, content-accepted}
-use Rattle.answer.specs.Content.{TextRoom}
-use Rattle.array.proofs.AnswerLaws.{array-fits}
+use Rattle.checks.specs.CheckLaws.{answered-by}
+use Rattle.letters.specs.RankLaws.{Bytes, fitting-bytes}
+use Rattle.array.proofs.AnswerLaws.{ordered-room, ordered-content}
 use borrow.Author.Needs.{needs}
 use Rattle.array.proofs.bytes.lyndon_array.Statement.{statement}
 use Rattle.array.proofs.bytes.lyndon_array.Tie as tie
@@ -13,54 +10,41 @@ use Rattle.array.proofs.bytes.lyndon_array.Tie as tie
 ordered-text-requires : tie.Need-ordered-text-requires
 ordered-text-requires c κs = search needs
 
-enum-known-c : tie.Need-enum-known-c
-enum-known-c c = search needs
+slice-aggregate-key-table : tie.Need-slice-aggregate-key-table
+slice-aggregate-key-table c = search needs
 
-refused-requires : tie.Need-refused-requires
-refused-requires c κs = search needs
+slice-aggregate-key-table-2 : tie.Need-slice-aggregate-key-table-2
+slice-aggregate-key-table-2 c = search needs
 
-returns : tie.Need-returns
-returns c =
-    let last = c .before .before .before .before in
-    (c .refused .ensures ∙ sym (failing (last .ordered-text .ensures) _ (c .before .before .c .given .1)), search content-refused)
+key-table-requires : tie.Need-key-table-requires
+key-table-requires c κs = search needs
 
-enum-told : tie.Need-enum-told
-enum-told c = search needs
-
-abbrev start : tie.After-enum-told → tie.Start
-start c = c .before .before .before .before .before
-
-fits : (c : tie.After-enum-told) → TextRoom (start c .args .text .now) (start c .args .out .now)
-fits c = search array-fits
-
-compute-requires : tie.Need-compute-requires
-compute-requires c κs = fits (c .before)
-
-cast-accepted : tie.Need-cast-accepted
-cast-accepted c = omega (arith, fits (c .before .before .before .before) .short)
-
-accepted-requires : tie.Need-accepted-requires
-accepted-requires c κs = search needs
+answered-requires : tie.Need-answered-requires
+answered-requires c κs = search ordered-room
 
 same-length : tie.Need-same-length
 same-length c = search needs
 
-returns-2 : tie.Need-returns-2
-returns-2 c =
-    let told = c .before .before .before .before .before in
-    (c .accepted .ensures ∙ sym (passing (told .before .before .ordered-text .ensures) _ (told .enum-told .given .1)), search content-accepted)
+-- The text is one of bytes.
+bytes : (c : tie.After-shared-slice-known) → Bytes (c .before .args .text .now)
+bytes c = fitting-bytes (c .shared-slice-known .given)
+
+returns : tie.Need-returns
+returns c =
+    let done = c .before .before in
+    let asked = done .before .before .before .before .before .before .before in
+    let text = bytes (asked .before .before) in
+    let told = done .answered .ensures .0 in
+    (answered-by _ (asked .ordered-text .ensures) told, search ordered-content)
 
 pub lyndon-array-spec : {M : Type 1} → statement M
 lyndon-array-spec =
     tie.close
     (tie.spec
     ordered-text-requires
-    enum-known-c
-    refused-requires
-    enum-told
-    compute-requires
-    cast-accepted
-    accepted-requires
-    returns
+    slice-aggregate-key-table
+    slice-aggregate-key-table-2
+    key-table-requires
+    answered-requires
     same-length
-    returns-2)
+    returns)

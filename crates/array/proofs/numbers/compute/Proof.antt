@@ -2,6 +2,7 @@
 -- Assumes nothing.
 use borrow.Author.Needs.{needs}
 use native.Mathlib.Omega.{arith}
+use mathlib.Core.Path.{refl}
 use Prim.Native.Nat.{_≤_}
 use lib.ListN.{length}
 use Rattle.array.specs.Core.Fill.{Filled}
@@ -17,7 +18,7 @@ abbrev μ-loop : tie.MeasureT-loop
 μ-loop text order buf₀ i₀ buf i = i
 
 loop-holds : tie.Need-loop-holds Inv-loop μ-loop
-loop-holds c = (omega arith, filled-start _ _ _)
+loop-holds c = (omega arith, filled-start _ _ _ _ refl)
 
 sub-i : tie.Need-sub-i Inv-loop μ-loop
 sub-i c = search needs

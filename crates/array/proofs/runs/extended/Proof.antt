@@ -1,7 +1,15 @@
 -- `array::runs::extended` meets its contract: each case by the comparison that stopped the joining.
 -- Assumes nothing.
+use mathlib.Core.Path.{_≡_, _∙_}
+use mathlib.Core.List.{List}
+use Prim.Native.Nat.{ℕ, _+_, _-_, _<_, _≤_}
 use native.Mathlib.Omega.{arith}
+use lib.ListN.{length, take, drop}
+use Rattle.letters.specs.Ranks.{rankRow}
+use Rattle.array.specs.CommonPrefix.{commonPrefix}
 use Rattle.array.proofs.Extension.{extended-end, extended-letter, extended-further, further-fits, extended-stopped}
+use Rattle.array.proofs.RankedLetters.{row-size}
+use Rattle.array.proofs.RankedAgreement.{rests-agree}
 use Rattle.array.specs.Core.Join.{Agreeing}
 use borrow.Author.Needs.{needs}
 use Rattle.array.proofs.runs.extended.Statement.{statement}
@@ -14,51 +22,80 @@ start c = c .before .before .before
 abbrev inside : tie.Else2 → tie.Else1
 inside c = c .before .before .before .before .before
 
+-- The row of ranks, as long as the text.
+abbrev row : tie.Start → List ℕ
+row c = rankRow (c .args .keys .now) (c .args .text .now)
+
+size : (c : tie.Start) → length (c .args .text .now) ≡ length (row c)
+size c = row-size (c .args .keys .now) (c .args .text .now)
+
+in-row : (c : tie.Else1) → start c .args .end < length (row (start c))
+in-row c = omega (arith, size (start c))
+
 -- The letters known to agree.
-agreeing : (c : tie.Else1) → Agreeing (start c .args .text .now) (start c .args .i) (start c .args .end) (start c .args .agreed)
-agreeing c = start c .pre .agreeing (c .if1 .left)
+agreeing : (c : tie.Else1) → Agreeing (row (start c)) (start c .args .i) (start c .args .end) (start c .args .agreed)
+agreeing c = start c .pre .agreeing (in-row c)
+
+-- How far the rests of the row agree.
+further : (c : tie.After-common-prefix) →
+    let at = start (inside (c .before .before .before)) in
+    let a = at .args .i + at .args .agreed in
+    let b = at .args .end + at .args .agreed in
+    c .common-prefix .result ≡ commonPrefix (take (length (row at) - a) (drop a (row at))) (take (length (row at) - b) (drop b (row at)))
+further c =
+    let args = start (inside (c .before .before .before)) .args in
+    c .common-prefix .ensures ∙ rests-agree (args .keys .now) (args .text .now) (args .i + args .agreed) (args .end + args .agreed)
 
 returns : tie.Need-returns
-returns c = search extended-end
+returns c =
+    let at = c .before .before .before in
+    let ended : length (row at) ≤ at .args .end = omega (arith, size at) in
+    search extended-end
 
 enum-told : tie.Need-enum-told
 enum-told c = search needs
 
 returns-2 : tie.Need-returns-2
-returns-2 c = search extended-stopped
+returns-2 c =
+    let in-text = in-row (c .before) in
+    search extended-stopped
 
 mul-wide : tie.Need-mul-wide
 mul-wide c = search needs
 
 shared-slice-read-wide : tie.Need-shared-slice-read-wide
-shared-slice-read-wide c = search needs
+shared-slice-read-wide c =
+    let at = c .before .before .before in
+    omega (arith, in-row at, start at .pre .fits)
 
 wide-requires : tie.Need-wide-requires
 wide-requires c κs = search needs
 
 returns-3 : tie.Need-returns-3
-returns-3 c = search extended-letter
+returns-3 c =
+    let in-text = in-row (c .before .before .before .before .before) in
+    search extended-letter
 
 add-u : tie.Need-add-u
-add-u c = omega (arith, agreeing (inside c))
+add-u c = omega (arith, agreeing (inside c), size (start (inside c)))
 
 sub-u : tie.Need-sub-u
-sub-u c = omega (arith, agreeing (inside c))
+sub-u c = omega (arith, agreeing (inside c), size (start (inside c)))
 
 part-u-start : tie.Need-part-u-start
-part-u-start c = omega (arith, agreeing (inside c))
+part-u-start c = omega (arith, agreeing (inside c), size (start (inside c)))
 
 part-u-end : tie.Need-part-u-end
 part-u-end c = search needs
 
 add-v : tie.Need-add-v
-add-v c = omega (arith, agreeing (inside (c .before)))
+add-v c = omega (arith, agreeing (inside (c .before)), size (start (inside (c .before))))
 
 sub-v : tie.Need-sub-v
-sub-v c = omega (arith, agreeing (inside (c .before)))
+sub-v c = omega (arith, agreeing (inside (c .before)), size (start (inside (c .before))))
 
 part-v-start : tie.Need-part-v-start
-part-v-start c = omega (arith, agreeing (inside (c .before)))
+part-v-start c = omega (arith, agreeing (inside (c .before)), size (start (inside (c .before))))
 
 part-v-end : tie.Need-part-v-end
 part-v-end c = search needs
@@ -69,10 +106,13 @@ common-prefix-requires c κs = search needs
 add-result : tie.Need-add-result
 add-result c =
     let at-inside = inside (c .before .before .before) in
-    omega (arith, further-fits _ _ _ _ _ _ (start at-inside .pre) (at-inside .if1 .left) _ (c .common-prefix .ensures))
+    omega (arith, further-fits _ _ _ _ _ _ (start at-inside .pre) (in-row at-inside) _ (further c), size (start at-inside))
 
 returns-4 : tie.Need-returns-4
-returns-4 c = search extended-further
+returns-4 c =
+    let in-text = in-row (inside (c .before .before .before)) in
+    let agreed = further c in
+    search extended-further
 
 pub extended-spec : {M : Type 1} → statement M
 extended-spec =

@@ -1,27 +1,51 @@
 -- `array::runs::find` meets its contract: both passes, and the sort.
 -- Assumes nothing.
-use Rattle.array.proofs.RunsFound.{runs-found}
+use mathlib.Core.Path.{_≡_}
+use native.Mathlib.Omega.{arith}
+use lib.ListN.{length}
+use Rattle.letters.specs.Ranks.{rankRow}
+use Rattle.letters.specs.RankLaws.{Bytes, fitting-bytes}
+use Rattle.array.proofs.RankedLetters.{row-size}
+use Rattle.array.proofs.PassLaws.{second-ready}
+use Rattle.array.proofs.RunsFound.{turned-row, runs-found}
 use borrow.Author.Needs.{needs}
 use Rattle.array.proofs.runs.find.Statement.{statement}
 use Rattle.array.proofs.runs.find.Tie as tie
 
+-- The call, from the moment when the first order is done, and that order.
+abbrev start : tie.After-slice-known4 → tie.Start
+start c = c .before .before .before .before .before .before .before .before .before .before
+
+size : (c : tie.Start) → length (c .args .text .now) ≡ length (rankRow (c .args .keys .now) (c .args .text .now))
+size c = row-size (c .args .keys .now) (c .args .text .now)
+
 pass-requires : tie.Need-pass-requires
 pass-requires c κs = search needs
 
+slice-aggregate-turned-table : tie.Need-slice-aggregate-turned-table
+slice-aggregate-turned-table c = search needs
+
+turned-table-requires : tie.Need-turned-table-requires
+turned-table-requires c κs = search needs
+
 mul-pass : tie.Need-mul-pass
-mul-pass c = search needs
+mul-pass c = let at = start (c .before .before .before .before) in omega (arith, size at, at .pre .1 .small)
 
 sub-pass : tie.Need-sub-pass
-sub-pass c = search needs
+sub-pass c = let at = start (c .before .before .before .before) in omega (arith, size at, at .pre .1 .work-room)
 
 part-pass-start : tie.Need-part-pass-start
-part-pass-start c = search needs
+part-pass-start c = let at = start (c .before .before .before .before) in omega (arith, size at, at .pre .1 .work-room)
 
 part-pass-end : tie.Need-part-pass-end
 part-pass-end c = search needs
 
 pass-requires-2 : tie.Need-pass-requires-2
-pass-requires-2 c κs = search needs
+pass-requires-2 c κs =
+    let second = c .before .before .before .before .before .before in
+    let ready = start second .pre .1 in
+    let first = second .before .before .before .before .pass .ensures in
+    search (second-ready, row-size)
 
 sort-triples-requires : tie.Need-sort-triples-requires
 sort-triples-requires c κs = search needs
@@ -32,14 +56,26 @@ same-length c = search needs
 same-length-2 : tie.Need-same-length-2
 same-length-2 c = search needs
 
+-- The text is one of bytes.
+bytes : (c : tie.After-shared-slice-known) → Bytes (c .before .args .text .now)
+bytes c = fitting-bytes (c .shared-slice-known .given)
+
 returns : tie.Need-returns
-returns c = search runs-found
+returns c =
+    let second = c .before .before .before .before .before .before .before .before .before .before .before .before .before .before .before in
+    let at = start second in
+    let falling = c .before .before .before .before .before .before .before .before .pass2 .ensures in
+    let turned = c .before .before .before .before .before .before .before .before .before .before .before .before .before .turned-table .ensures in
+    runs-found _ _ _ _ _ _ _ _ _ _ _ _ (second .before .before .before .before .pass .ensures) falling
+    (turned-row _ _ _ (bytes (second .before .before .before .before .before .before .before .before .before)) (at .pre .0) turned) (c .before .before .sort-triples .ensures) (at .pre .1) (size at)
 
 pub find-spec : {M : Type 1} → statement M
 find-spec =
     tie.close
     (tie.spec
     pass-requires
+    slice-aggregate-turned-table
+    turned-table-requires
     mul-pass
     sub-pass
     part-pass-start

@@ -1,19 +1,32 @@
 -- `array::runs::list_at` meets its contract: the run is written where it has two periods and belongs to this order.
 -- Assumes nothing.
+use mathlib.Core.Path.{_≡_, _∙_}
+use mathlib.Core.List.{List}
 use native.Mathlib.Omega.{arith}
 use mathlib.Core.Logic.{⊎-elim}
-use Prim.Native.Nat.{_+_, _<_}
+use Prim.Native.Nat.{ℕ, _+_, _<_}
 use lib.ListN.{length}
+use Rattle.letters.specs.Ranks.{rankRow}
+use Rattle.array.proofs.RankedLetters.{row-size}
 use Rattle.array.proofs.RunEntry.{too-short, at-text-end, run-found}
 use borrow.Author.Needs.{needs}
 use Rattle.array.proofs.runs.list_at.Statement.{statement}
 use Rattle.array.proofs.runs.list_at.Tie as tie
 
+-- The row of ranks, as long as the text.
+abbrev row : tie.Start → List ℕ
+row c = rankRow (c .args .keys .now) (c .args .text .now)
+
+size : (c : tie.Start) → length (c .args .text .now) ≡ length (row c)
+size c = row-size (c .args .keys .now) (c .args .text .now)
+
 sub-p : tie.Need-sub-p
 sub-p c = search needs
 
 start-of-requires : tie.Need-start-of-requires
-start-of-requires c κs = search needs
+start-of-requires c κs =
+    let at = c .before .before in
+    omega (arith, size at, at .pre .0 .next, at .pre .0 .exact)
 
 sub-if1 : tie.Need-sub-if1
 sub-if1 c = search needs
@@ -28,7 +41,10 @@ add-if3 : tie.Need-add-if3
 add-if3 c = search needs
 
 returns-2 : tie.Need-returns-2
-returns-2 c = search at-text-end
+returns-2 c =
+    let at = c .before .before .before .before .before .before in
+    let ended : at .args .end + at .args .k ≡ length (row at) = c .if3 .taken ∙ size at in
+    search at-text-end
 
 add-write-entry : tie.Need-add-write-entry
 add-write-entry c = search needs
@@ -48,10 +64,9 @@ same-length c = search needs
 returns-3 : tie.Need-returns-3
 returns-3 c =
     let at-tests = c .before .before .before .before in
-    let args = at-tests .before .before .before .before .before .args in
-    let inside = at-tests .before .before .before .before .before .pre .0 .exact .within in
-    let early : 0 < args .order → args .end + args .k < length (args .text .now) =
-    λ h. ⊎-elim (λ r. omega (arith, r .1 .left, inside)) (λ r. absurd (omega (arith, h, r .left))) (at-tests .if2 .came) in
+    let at = at-tests .before .before .before .before .before in
+    let early : 0 < at .args .order → at .args .end + at .args .k < length (row at) =
+    λ h. ⊎-elim (λ r. omega (arith, r .1 .left, at .pre .0 .exact .within, size at)) (λ r. absurd (omega (arith, h, r .left))) (at-tests .if2 .came) in
     search run-found
 
 pub list-at-spec : {M : Type 1} → statement M

@@ -1,12 +1,7 @@
--- `array::runs::runs` meets its contract: the checks give the answer, and the runs are sought where they pass.
+-- `array::runs::runs` meets its contract: the answer is that of the checks, and the keys are the letters' own numbers.
 -- Assumes nothing.
-use mathlib.Core.Path.{sym, ap, _∙_}
-use Prim.Native.Nat.{_≤_}
-use lib.ListN.{length}
-use Rattle.answer.specs.Answers.{acceptedWith}
-use Rattle.answer.specs.Limits.{maxLength, runListLength, workLength}
-use Rattle.checks.specs.CheckLaws.{passing, failing, runs-passed}
-use Rattle.answer.specs.AfterLaws.{content-refused, content-accepted}
+use Rattle.letters.specs.RankLaws.{Bytes, fitting-bytes}
+use Rattle.array.proofs.AnswerLaws.{runs-ready, plain-keys, plain-row, found-as}
 use borrow.Author.Needs.{needs}
 use Rattle.array.proofs.runs.runs.Statement.{statement}
 use Rattle.array.proofs.runs.runs.Tie as tie
@@ -14,41 +9,17 @@ use Rattle.array.proofs.runs.runs.Tie as tie
 runs-requires : tie.Need-runs-requires
 runs-requires c κs = search needs
 
-enum-known-c : tie.Need-enum-known-c
-enum-known-c c = search needs
+slice-aggregate-rank-table : tie.Need-slice-aggregate-rank-table
+slice-aggregate-rank-table c = search needs
 
-refused-requires : tie.Need-refused-requires
-refused-requires c κs = search needs
+slice-aggregate-rank-table-2 : tie.Need-slice-aggregate-rank-table-2
+slice-aggregate-rank-table-2 c = search needs
 
-returns : tie.Need-returns
-returns c =
-    let last = c .before .before .before .before in (
-      c .refused .ensures ∙ sym (failing (last .runs .ensures) _ (c .before .before .c .given .1)),
-      (search content-refused, search content-refused),
-    )
+rank-table-requires : tie.Need-rank-table-requires
+rank-table-requires c κs = search needs
 
-enum-told : tie.Need-enum-told
-enum-told c = search needs
-
-abbrev start : tie.After-enum-told → tie.Start
-start c = c .before .before .before .before .before .before
-
-room : (c : tie.After-enum-told) → let n = length (start c .args .text .now) in
-    (n ≤ maxLength) × (runListLength n ≤ length (start c .args .list .now)) × (workLength n ≤ length (start c .args .work .now))
-room c =
-    let args = start c .args in
-    let known = runs-passed (length (args .text .now)) (length (args .list .now)) (length (args .work .now))
-    (c .before .before .runs .ensures) (c .enum-told .given .1) in
-    (known .0 .short, known .1, known .2)
-
-find-requires : tie.Need-find-requires
-find-requires c κs = room (c .before .before)
-
-cast-accepted : tie.Need-cast-accepted
-cast-accepted c = let known = room (c .before .before .before .before .before .before .before) in search needs
-
-accepted-requires : tie.Need-accepted-requires
-accepted-requires c κs = search needs
+answered-requires : tie.Need-answered-requires
+answered-requires c κs = (search plain-keys, search runs-ready)
 
 same-length : tie.Need-same-length
 same-length c = search needs
@@ -56,26 +27,27 @@ same-length c = search needs
 same-length-2 : tie.Need-same-length-2
 same-length-2 c = search needs
 
-returns-2 : tie.Need-returns-2
-returns-2 c =
-    let found = c .before .before .before .before .before in
-    let told = found .before .before .before in (
-      c .accepted .ensures ∙ ap acceptedWith (found .find .ensures .counted) ∙ sym (passing (told .before .before .runs .ensures) _ (told .enum-told .given .1)),
-      (search content-accepted, search content-accepted),
-    )
+-- The text is one of bytes.
+bytes : (c : tie.After-shared-slice-known) → Bytes (c .before .args .text .now)
+bytes c = fitting-bytes (c .shared-slice-known .given)
+
+returns : tie.Need-returns
+returns c =
+    let done = c .before .before .before .before in
+    let asked = done .before .before .before .before .before .before .before .before in
+    let text = bytes (asked .before .before .before) in
+    let made = done .answered .ensures in
+    found-as _ _ _ _ _ _ (λ e. plain-row _ text _ (done .before .before .before .before .before .rank-table .ensures)) (made .0) (made .1 .0) (made .1 .1) (asked .runs .ensures)
 
 pub runs-spec : {M : Type 1} → statement M
 runs-spec =
     tie.close
     (tie.spec
     runs-requires
-    enum-known-c
-    refused-requires
-    enum-told
-    find-requires
-    cast-accepted
-    accepted-requires
-    returns
+    slice-aggregate-rank-table
+    slice-aggregate-rank-table-2
+    rank-table-requires
+    answered-requires
     same-length
     same-length-2
-    returns-2)
+    returns)

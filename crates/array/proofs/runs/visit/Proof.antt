@@ -6,6 +6,10 @@ use borrow.Author.Needs.{needs}
 use Rattle.array.proofs.runs.visit.Statement.{statement}
 use Rattle.array.proofs.runs.visit.Tie as tie
 
+-- The call, from the moment when the word is stored.
+abbrev start : tie.After-store-word → tie.Start
+start c = c .before .before .before .before .before .before .before .before .before .before .before
+
 join-requires : tie.Need-join-requires
 join-requires c κs = search needs
 
@@ -34,7 +38,9 @@ same-length-3 : tie.Need-same-length-3
 same-length-3 c = search needs
 
 returns-2 : tie.Need-returns-2
-returns-2 c = search visited
+returns-2 c =
+    let ready = start (c .before .before .before .before .before .before .before .before) .pre in
+    search visited
 
 pub visit-spec : {M : Type 1} → statement M
 visit-spec =

@@ -1,20 +1,57 @@
 -- `factors::suffix_table::fill` meets its contract: each turn writes the entry of the letter that it reads.
 -- Assumes nothing.
-use Prim.Native.Nat.{_-_}
-use native.Mathlib.Omega.{arith}
-use mathlib.Core.Path.{_∙_}
+use mathlib.Core.Path.{_≡_, _∙_}
 use mathlib.Core.Logic.{⊎-elim}
+use Prim.Native.Nat.{_-_, _<_}
+use native.Mathlib.Omega.{arith}
 use borrow.Author.Needs.{needs}
 use lib.ListN.{length, length-set}
+use Rattle.words.specs.Letters.{orderOf}
+use Rattle.words.specs.Decided.{decided-order}
+use Rattle.letters.specs.Compared.{comparisonOf}
+use Rattle.letters.specs.Ranks.{rankRow}
+use Rattle.letters.specs.RankLaws.{row-length}
+use Rattle.factors.specs.DuvalSteps.{answerAt}
+use Rattle.factors.proofs.Ranking.{row-answer}
+use Rattle.answer.specs.ContentLaws.{same-room}
 use Rattle.factors.proofs.Tabling.{Filling, filling-start, filling-below, filling-same, filling-above, filling-end, filled-first}
 use Rattle.factors.proofs.suffix_table.fill.Statement.{statement}
 use Rattle.factors.proofs.suffix_table.fill.Tie as tie
 
+-- The row of ranks is as long as the text; the rest is said of the row.
 abbrev Inv-loop : tie.InvT-loop
-Inv-loop text out₀ start period₀ end₀ out period end = Filling text out₀ out start period end
+Inv-loop text order ranks out₀ start period₀ end₀ out period end =
+    (length (rankRow ranks text) ≡ length text) × Filling (orderOf order) (rankRow ranks text) out₀ out start period end
 
 abbrev μ-loop : tie.MeasureT-loop
-μ-loop text out₀ start period₀ end₀ out period end = length text - end
+μ-loop text order ranks out₀ start period₀ end₀ out period end = length text - end
+
+-- Where the function starts, and the loop's head, seen from behind the question.
+abbrev begin : tie.At-loop Inv-loop μ-loop → tie.Start Inv-loop μ-loop
+begin c = c .before .before .before
+
+abbrev head : tie.After-compare-ranks Inv-loop μ-loop → tie.At-loop Inv-loop μ-loop
+head c = c .before .before .before .before
+
+-- A place in the text is one in the row.
+placed : (c : tie.At-loop Inv-loop μ-loop) →
+    let args = begin c .args in args .start < length (rankRow (args .ranks .now) (args .text .now))
+placed c = omega (arith, begin c .pre .1 .0, c .loop .inv .0)
+
+inside : (c : tie.After-compare-ranks Inv-loop μ-loop) →
+    let args = begin (head c) .args in head c .loop .end < length (rankRow (args .ranks .now) (args .text .now))
+inside c = omega (arith, c .before .before .before .loop-test .taken, head c .loop .inv .0)
+
+-- The answer is that of the row's letters.
+answered : (c : tie.After-compare-ranks Inv-loop μ-loop) →
+    let args = begin (head c) .args in
+    let now = head c .loop in
+    c .compare-ranks .result ≡ comparisonOf (answerAt (decided-order (args .order)) 0 (rankRow (args .ranks .now) (args .text .now)) (now .period) (now .end))
+answered c =
+    let args = begin (head c) .args in
+    let now = head c .loop in
+    row-answer (args .ranks .now) (args .text .now) (decided-order (args .order)) (now .period) (now .end) (c .before .before .before .loop-test .taken) _
+    (c .compare-ranks .ensures)
 
 add-end : tie.Need-add-end Inv-loop μ-loop
 add-end c = omega arith
@@ -26,34 +63,36 @@ slice-write-out : tie.Need-slice-write-out Inv-loop μ-loop
 slice-write-out c = omega arith
 
 loop-holds : tie.Need-loop-holds Inv-loop μ-loop
-loop-holds c = filling-start _ _ _ (c .before .before .pre .0) (c .before .before .pre .1)
+loop-holds c =
+    let begun = c .before .before in
+    let same = row-length (begun .args .ranks .now) (begun .args .text .now) in
+    (same, filling-start _ _ _ _ (same-room same (begun .pre .0)) (omega (arith, begun .pre .1 .0, same)) (begun .pre .1 .1))
 
-shared-slice-read-compare : tie.Need-shared-slice-read-compare Inv-loop μ-loop
-shared-slice-read-compare c = omega arith
+shared-slice-read-compare-ranks : tie.Need-shared-slice-read-compare-ranks Inv-loop μ-loop
+shared-slice-read-compare-ranks c = omega arith
 
-sub-compare : tie.Need-sub-compare Inv-loop μ-loop
-sub-compare c = omega arith
+sub-compare-ranks : tie.Need-sub-compare-ranks Inv-loop μ-loop
+sub-compare-ranks c = omega arith
 
-shared-slice-read-compare-2 : tie.Need-shared-slice-read-compare-2 Inv-loop μ-loop
-shared-slice-read-compare-2 c = omega arith
+shared-slice-read-compare-ranks-2 : tie.Need-shared-slice-read-compare-ranks-2 Inv-loop μ-loop
+shared-slice-read-compare-ranks-2 c = omega arith
 
-compare-requires : tie.Need-compare-requires Inv-loop μ-loop
-compare-requires c κs = search needs
+compare-ranks-requires : tie.Need-compare-ranks-requires Inv-loop μ-loop
+compare-ranks-requires c κs = search needs
 
 enum-told : tie.Need-enum-told Inv-loop μ-loop
 enum-told c = search needs
 
 same-length : tie.Need-same-length Inv-loop μ-loop
-same-length c = c .before .before .before .before .before .before .loop .inv .table .others .size ∙ simp length-set
+same-length c = head (c .before .before) .loop .inv .1 .table .others .size ∙ simp length-set
 
 returns : tie.Need-returns Inv-loop μ-loop
 returns c =
     let asked = c .before .before in
-    let turn = asked .before .before .before in
-    let head = turn .before in
-    let entry = head .before .before .before in
-    filled-first _ _ _ _ _ _ (entry .pre .1 .inside)
-    (filling-below _ _ _ _ _ _ (entry .pre .1 .lowest) (head .loop .inv) (turn .loop-test .taken) (asked .compare .result) (asked .compare .ensures) (c .enum-told .given .1))
+    let now = head asked in
+    let decided = decided-order (begin now .args .order) in
+    filled-first _ _ _ _ _ _ _ (placed now)
+    (filling-below _ _ _ _ _ _ _ (begin now .pre .1 .1 .lowest) (now .loop .inv .1) decided (inside asked) _ (answered asked) (c .enum-told .given .1))
 
 enum-told-2 : tie.Need-enum-told-2 Inv-loop μ-loop
 enum-told-2 c = search needs
@@ -100,27 +139,24 @@ loop-less c = omega arith
 loop-again : tie.Need-loop-again Inv-loop μ-loop
 loop-again c =
     let asked = c .before in
-    let turn = asked .before .before .before in
-    let head = turn .before in
-    let entry = head .before .before .before in
+    let now = head asked in
+    let inv = now .loop .inv in
+    let decided = decided-order (begin now .args .order) in
+    let lowest = begin now .pre .1 .1 .lowest in
     ⊎-elim
-    (λ w.
-    rw (w .3, w .4)
-    (filling-same _ _ _ _ _ _ (entry .pre .1 .lowest) (head .loop .inv) (turn .loop-test .taken) (asked .compare .result) (asked .compare .ensures) (w .1 .given .1)))
-    (λ w.
-    rw (w .2, w .3)
-    (filling-above _ _ _ _ _ _ (entry .pre .1 .lowest) (head .loop .inv) (turn .loop-test .taken) (asked .compare .result) (asked .compare .ensures) (w .1 .given .1)))
+    (λ w. rw (w .3, w .4) (inv .0, filling-same _ _ _ _ _ _ _ lowest (inv .1) decided (inside asked) _ (answered asked) (w .1 .given .1)))
+    (λ w. rw (w .2, w .3) (inv .0, filling-above _ _ _ _ _ _ _ lowest (inv .1) decided (inside asked) _ (answered asked) (w .1 .given .1)))
     (c .match .came)
 
 same-length-2 : tie.Need-same-length-2 Inv-loop μ-loop
-same-length-2 c = c .before .loop .inv .table .others .size ∙ simp length-set
+same-length-2 c = c .before .loop .inv .1 .table .others .size ∙ simp length-set
 
 returns-2 : tie.Need-returns-2 Inv-loop μ-loop
 returns-2 c =
-    let head = c .before in
-    let entry = head .before .before .before in
-    filled-first _ _ _ _ _ _ (entry .pre .1 .inside)
-    (filling-end _ _ _ _ _ _ (entry .pre .1 .lowest) (head .loop .inv) (c .loop-test .left))
+    let now = c .before in
+    let inv = now .loop .inv in
+    filled-first _ _ _ _ _ _ _ (placed now)
+    (filling-end _ _ _ _ _ _ _ (begin now .pre .1 .1 .lowest) (inv .1) (omega (arith, c .loop-test .left, inv .0)))
 
 pub fill-spec : {M : Type 1} → statement M
 fill-spec =
@@ -132,10 +168,10 @@ fill-spec =
     mul-out
     slice-write-out
     loop-holds
-    shared-slice-read-compare
-    sub-compare
-    shared-slice-read-compare-2
-    compare-requires
+    shared-slice-read-compare-ranks
+    sub-compare-ranks
+    shared-slice-read-compare-ranks-2
+    compare-ranks-requires
     enum-told
     same-length
     returns

@@ -9,10 +9,9 @@ add-if1 : tie.Need-add-if1
 add-if1 c = search needs
 
 fill-requires : tie.Need-fill-requires
-fill-requires c κs = (
-  c .before .before .before .before .before .before .pre .0,
-  covered-startable _ _ _ _ (c .before .before .before .before .before .before .pre .1 .0) (c .before .before .before .before .before .before .pre .1 .1),
-)
+fill-requires c κs =
+    let asked = c .before .before .before .before .before .before .pre in
+    (asked .0, (asked .1 .0, covered-startable _ _ _ _ _ (asked .1 .1)))
 
 same-length : tie.Need-same-length
 same-length c = search needs
@@ -21,7 +20,7 @@ returns : tie.Need-returns
 returns c = search needs
 
 returns-2 : tie.Need-returns-2
-returns-2 c = covered-filled _ _ _ _ (c .before .before .before .before .before .pre .1 .0) (c .if1 .left)
+returns-2 c = covered-filled _ _ _ _ _ (c .before .before .before .before .before .pre .1 .1) (c .if1 .left)
 
 pub fill-at-spec : {M : Type 1} → statement M
 fill-at-spec = tie.close (tie.spec add-if1 fill-requires same-length returns returns-2)

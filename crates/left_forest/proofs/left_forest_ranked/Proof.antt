@@ -1,32 +1,37 @@
--- `left_forest::left_forest` meets its contract: the checks give the answer, and the forest is written where they pass.
+-- `left_forest::left_forest_ranked` meets its contract: the checks give the answer, and the forest is written where they pass.
 -- Assumes nothing.
 use mathlib.Core.Path.{sym, _∙_}
-use Prim.Native.Nat.{_<_}
 use native.Mathlib.Omega.{arith}
 use lib.ListN.{length}
 use borrow.Author.Needs.{needs}
 use Rattle.answer.specs.AfterLaws.{content-refused, content-accepted}
-use Rattle.checks.specs.CheckLaws.{passing, failing, forest-passed}
-use Rattle.answer.specs.Content.{TextRoom}
+use Rattle.checks.specs.CheckLaws.{passing, failing, ranked-forest-passed}
 use Rattle.answer.specs.ContentLaws.{sized-room}
-use Rattle.left_forest.proofs.left_forest.Statement.{statement}
-use Rattle.left_forest.proofs.left_forest.Tie as tie
+use Rattle.left_forest.specs.Results.{Growable}
+use Rattle.left_forest.proofs.left_forest_ranked.Statement.{statement}
+use Rattle.left_forest.proofs.left_forest_ranked.Tie as tie
 
-abbrev start : tie.After-enum-told → tie.Start
-start c = c .before .before .before .before .before .before
+abbrev begin : tie.After-enum-told → tie.Start
+begin c = c .before .before .before .before .before .before .before
 
 -- What is known where the checks pass.
-room : (c : tie.After-enum-told)
-    → (0 < length (start c .args .text .now)) × TextRoom (start c .args .text .now) (start c .args .first .now)
-    × TextRoom (start c .args .text .now) (start c .args .past .now)
-room c =
-    let args = start c .args in
-    let n = length (args .text .now) in
-    let known = forest-passed n (length (args .first .now)) (length (args .past .now)) (c .before .before .forest .ensures) (c .enum-told .given .1) in
-    (known .0 .some, sized-room (known .0) (known .1), sized-room (known .0) (known .2))
+known : (c : tie.After-enum-told) →
+    let args = begin c .args in Growable (args .order) (args .table .now) (args .text .now) (args .first .now) (args .past .now)
+known c =
+    let args = begin c .args in
+    let passed =
+    ranked-forest-passed (length (args .text .now)) (args .order) (length (args .table .now)) (length (args .first .now)) (length (args .past .now))
+    (c .before .before .ranked-forest .ensures) (c .enum-told .given .1) in
+    record {
+      some = passed .0 .some;
+      in-first = sized-room (passed .0) (passed .3);
+      in-past = sized-room (passed .0) (passed .4);
+      named = passed .1;
+      fits = passed .2;
+    }
 
-forest-requires : tie.Need-forest-requires
-forest-requires c κs = search needs
+ranked-forest-requires : tie.Need-ranked-forest-requires
+ranked-forest-requires c κs = search needs
 
 enum-known-c : tie.Need-enum-known-c
 enum-known-c c = search needs
@@ -38,10 +43,10 @@ enum-told : tie.Need-enum-told
 enum-told c = search needs
 
 grow-requires : tie.Need-grow-requires
-grow-requires c κs = let known = room (c .before .before) in (known .0, (known .1, known .2))
+grow-requires c κs = known (c .before .before)
 
 cast-accepted : tie.Need-cast-accepted
-cast-accepted c = omega (arith, room (c .before .before .before .before .before .before .before) .1 .short)
+cast-accepted c = omega (arith, known (c .before .before .before .before .before .before .before) .in-first .short)
 
 accepted-requires : tie.Need-accepted-requires
 accepted-requires c κs = search needs
@@ -49,7 +54,7 @@ accepted-requires c κs = search needs
 returns : tie.Need-returns
 returns c =
     let last = c .before .before .before .before in
-    let checked = last .forest .ensures in (
+    let checked = last .ranked-forest .ensures in (
       c .refused .ensures ∙ sym (failing checked _ (c .before .before .c .given .1)),
       (search content-refused, search content-refused),
     )
@@ -65,7 +70,7 @@ returns-2 c =
     let grown = c .before .before .before .before .before in
     let told = grown .before .before .before in
     let last = told .before .before in
-    let checked = last .forest .ensures in (
+    let checked = last .ranked-forest .ensures in (
       c .accepted .ensures ∙ sym (passing checked _ (told .enum-told .given .1)),
       (
         content-accepted _ _ (c .accepted .ensures) _ _ _ (grown .grow .ensures .in-first),
@@ -73,11 +78,11 @@ returns-2 c =
       ),
     )
 
-pub left-forest-spec : {M : Type 1} → statement M
-left-forest-spec =
+pub left-forest-ranked-spec : {M : Type 1} → statement M
+left-forest-ranked-spec =
     tie.close
     (tie.spec
-    forest-requires
+    ranked-forest-requires
     enum-known-c
     refused-requires
     enum-told

@@ -1,0 +1,118 @@
+-- The ranked calls by order and table (document 02, E1).
+-- Assumes nothing.
+use mathlib.Core.Path.{_≡_, refl, sym, ap, _∙_}
+use mathlib.Core.List.{List}
+use Prim.Native.Nat.{ℕ, zero, suc, _<_, _≤_}
+use native.Mathlib.Omega.{arith}
+use lib.ListN.{length, getD, take, drop}
+use Rattle.words.specs.Letters.{falling}
+use Rattle.words.specs.Decided.{decided-falling}
+use Rattle.words.specs.Factorization.{IsFactorization}
+use Rattle.words.specs.SuffixTable.{IsSuffixTable}
+use Rattle.words.specs.Compute.Factorization.{factorizationOf}
+use Rattle.answer.specs.declared.Answer.{Answer}
+use Rattle.answer.specs.Answers.{acceptedWith}
+use Rattle.answer.specs.AfterCall.{contentAfter}
+use Rattle.answer.specs.Limits.{Sized, tableLength}
+use Rattle.checks.specs.Checks.{rankedTextChecked}
+use Rattle.checks.specs.CheckLaws.{ranked-text-as}
+use Rattle.letters.specs.Ranks.{rankRow}
+use Rattle.letters.specs.RankLaws.{row-length, identity-row}
+use Rattle.factors.specs.Answers.{factorizationAnswer, suffixTableAnswer, factorsIn, suffixTableIn, factorizationRankedAnswer, suffixTableRankedAnswer}
+use Rattle.factors.specs.Theorems.{startsAfter, tableAfter, factorsRankedAfter, suffixTableRankedAfter, factorization-ranked-accepts, factorization-ranked-written, factorization-ranked-rest, suffix-table-ranked-accepts, suffix-table-ranked-written, suffix-table-ranked-rest}
+
+-- All answers by a table are those in order 0 for the row of ranks: over every table of 256 entries, every text, also one that is refused,
+-- and every buffer. In order 0 the table t is not looked at.
+module _ (table : List ℕ) (fits : length table ≡ tableLength) (t x out : List ℕ) where
+  -- The checks are the same.
+  same-checks : (count : ℕ → Answer) →
+      rankedTextChecked (length x) 2 (length table) (length out) (count (length x)) ≡
+      rankedTextChecked (length (rankRow table x)) 0 (length t) (length out) (count (length (rankRow table x)))
+  same-checks count =
+      ranked-text-as (length x) (count (length x)) 2 (length table) (omega arith) (λ e. fits) (length out) ∙
+      ap (λ (n : ℕ). rankedTextChecked n 0 (length t) (length out) (count n)) (sym (row-length table x))
+
+  -- The factor list, answer and buffer.
+  pub factors-by-rank :
+      (factorizationRankedAnswer 2 table x (length out) ≡ factorizationRankedAnswer 0 t (rankRow table x) (length out)) ×
+      (factorsRankedAfter 2 table x out ≡ factorsRankedAfter 0 t (rankRow table x) out)
+  factors-by-rank =
+      let answer = same-checks (λ n. acceptedWith (length (factorsIn 2 table x))) in
+      (answer, ap (λ (r : Answer). contentAfter r (factorsIn 2 table x) out) answer)
+
+  -- The Lyndon suffix table, answer and buffer.
+  pub suffix-table-by-rank :
+      (suffixTableRankedAnswer 2 table x (length out) ≡ suffixTableRankedAnswer 0 t (rankRow table x) (length out)) ×
+      (suffixTableRankedAfter 2 table x out ≡ suffixTableRankedAfter 0 t (rankRow table x) out)
+  suffix-table-by-rank =
+      let answer = same-checks acceptedWith in
+      (answer, ap (λ (r : Answer). contentAfter r (suffixTableIn 2 table x) out) answer)
+
+  -- A table that gives each byte its own number gives the answers of order 0.
+  module _ (own : (a : ℕ) → a < tableLength → getD table a 0 ≡ a) (bytes : (i : ℕ) → i < length x → getD x i 0 < tableLength) where
+    own-row : rankRow table x ≡ x
+    own-row = identity-row table x own bytes
+
+    pub factors-by-own-rank :
+        (factorizationRankedAnswer 2 table x (length out) ≡ factorizationRankedAnswer 0 t x (length out)) ×
+        (factorsRankedAfter 2 table x out ≡ factorsRankedAfter 0 t x out)
+    factors-by-own-rank = (
+      factors-by-rank .0 ∙ ap (λ (y : List ℕ). factorizationRankedAnswer 0 t y (length out)) own-row,
+      factors-by-rank .1 ∙ ap (λ (y : List ℕ). factorsRankedAfter 0 t y out) own-row,
+    )
+
+    pub suffix-table-by-own-rank :
+        (suffixTableRankedAnswer 2 table x (length out) ≡ suffixTableRankedAnswer 0 t x (length out)) ×
+        (suffixTableRankedAfter 2 table x out ≡ suffixTableRankedAfter 0 t x out)
+    suffix-table-by-own-rank = (
+      suffix-table-by-rank .0 ∙ ap (λ (y : List ℕ). suffixTableRankedAnswer 0 t y (length out)) own-row,
+      suffix-table-by-rank .1 ∙ ap (λ (y : List ℕ). suffixTableRankedAfter 0 t y out) own-row,
+    )
+
+-- Orders 0 and 1 do not look at the table: any two give one answer and one content, also where the call refuses.
+pub factors-unranked : (order : ℕ) → order ≤ 1 → (table t x out : List ℕ) →
+    (factorizationRankedAnswer order table x (length out) ≡ factorizationRankedAnswer order t x (length out)) ×
+    (factorsRankedAfter order table x out ≡ factorsRankedAfter order t x out)
+factors-unranked zero l table t x out = (refl, refl)
+factors-unranked (suc zero) l table t x out = (refl, refl)
+factors-unranked (suc (suc order)) l table t x out = absurd (omega arith)
+
+pub suffix-table-unranked : (order : ℕ) → order ≤ 1 → (table t x out : List ℕ) →
+    (suffixTableRankedAnswer order table x (length out) ≡ suffixTableRankedAnswer order t x (length out)) ×
+    (suffixTableRankedAfter order table x out ≡ suffixTableRankedAfter order t x out)
+suffix-table-unranked zero l table t x out = (refl, refl)
+suffix-table-unranked (suc zero) l table t x out = (refl, refl)
+suffix-table-unranked (suc (suc order)) l table t x out = absurd (omega arith)
+
+module _ (table x out : List ℕ) where
+  -- Order 0 is the call without an order.
+  pub factors-rising :
+      (factorizationRankedAnswer 0 table x (length out) ≡ factorizationAnswer x (length out)) × (factorsRankedAfter 0 table x out ≡ startsAfter x out)
+  factors-rising = (refl, refl)
+
+  pub suffix-table-rising :
+      (suffixTableRankedAnswer 0 table x (length out) ≡ suffixTableAnswer x (length out)) × (suffixTableRankedAfter 0 table x out ≡ tableAfter x out)
+  suffix-table-rising = (refl, refl)
+
+  -- Order 1 is the definition under falling letters: a text of 1 to 1,048,576 letters, with a buffer that is long enough, is accepted, the
+  -- count is that of the definition, the places counted hold it, and the others what they held before.
+  module _ (sized : Sized (length x)) (room : length x ≤ length out) where
+    pub factors-falling :
+        let k = length (factorizationOf decided-falling x) in
+        (factorizationRankedAnswer 1 table x (length out) ≡ acceptedWith k) × IsFactorization falling x (take k (factorsRankedAfter 1 table x out)) ×
+        (drop k (factorsRankedAfter 1 table x out) ≡ drop k out)
+    factors-falling = (
+      factorization-ranked-accepts x sized out room 1 table (omega arith) (λ e. cc),
+      factorization-ranked-written x sized out room 1 table (omega arith) (λ e. cc),
+      factorization-ranked-rest x sized out room 1 table (omega arith) (λ e. cc),
+    )
+
+    pub suffix-table-falling :
+        (suffixTableRankedAnswer 1 table x (length out) ≡ acceptedWith (length x)) ×
+        IsSuffixTable falling x (take (length x) (suffixTableRankedAfter 1 table x out)) ×
+        (drop (length x) (suffixTableRankedAfter 1 table x out) ≡ drop (length x) out)
+    suffix-table-falling = (
+      suffix-table-ranked-accepts x sized out room 1 table (omega arith) (λ e. cc),
+      suffix-table-ranked-written x sized out room 1 table (omega arith) (λ e. cc),
+      suffix-table-ranked-rest x sized out room 1 table (omega arith) (λ e. cc),
+    )

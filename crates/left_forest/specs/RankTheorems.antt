@@ -1,0 +1,86 @@
+-- The ranked call by order and table (document 02, E1).
+-- Assumes nothing.
+use mathlib.Core.Path.{_≡_, refl, sym, ap, _∙_}
+use mathlib.Core.List.{List}
+use Prim.Native.Nat.{ℕ, zero, suc, _<_, _≤_}
+use native.Mathlib.Omega.{arith}
+use lib.ListN.{length, getD, take, drop}
+use Rattle.words.specs.Letters.{falling}
+use Rattle.words.specs.LeftForest.{IsLeftForest}
+use Rattle.answer.specs.declared.Answer.{Answer}
+use Rattle.answer.specs.Answers.{acceptedWith}
+use Rattle.answer.specs.AfterCall.{contentAfter}
+use Rattle.answer.specs.Limits.{Sized, tableLength}
+use Rattle.checks.specs.Checks.{rankedForestChecked}
+use Rattle.checks.specs.CheckLaws.{ranked-forest-as}
+use Rattle.letters.specs.Ranks.{rankRow}
+use Rattle.letters.specs.RankLaws.{row-length, identity-row}
+use Rattle.left_forest.specs.Answers.{leftForestAnswer, leftFirstIn, leftPastIn, leftForestRankedAnswer}
+use Rattle.left_forest.specs.Theorems.{leftFirstAfter, leftPastAfter, leftFirstRankedAfter, leftPastRankedAfter, left-forest-ranked-accepts, left-forest-ranked-written, left-forest-ranked-rest}
+
+-- All answers by a table are those in order 0 for the row of ranks: over every table of 256 entries, every text, also one that is refused,
+-- and every two buffers. In order 0 the table t is not looked at.
+module _ (table : List ℕ) (fits : length table ≡ tableLength) (t x first past : List ℕ) where
+  answer-by-rank :
+      leftForestRankedAnswer 2 table x (length first) (length past) ≡ leftForestRankedAnswer 0 t (rankRow table x) (length first) (length past)
+  answer-by-rank =
+      ranked-forest-as (length x) (acceptedWith (length x)) 2 (length table) (omega arith) (λ e. fits) (length first) (length past) ∙
+      ap (λ (n : ℕ). rankedForestChecked n 0 (length t) (length first) (length past) (acceptedWith n)) (sym (row-length table x))
+
+  -- The left forest, answer and both buffers.
+  pub left-forest-by-rank :
+      (leftForestRankedAnswer 2 table x (length first) (length past) ≡ leftForestRankedAnswer 0 t (rankRow table x) (length first) (length past)) ×
+      (leftFirstRankedAfter 2 table x first past ≡ leftFirstRankedAfter 0 t (rankRow table x) first past) ×
+      (leftPastRankedAfter 2 table x first past ≡ leftPastRankedAfter 0 t (rankRow table x) first past)
+  left-forest-by-rank = (
+    answer-by-rank,
+    ap (λ (r : Answer). contentAfter r (leftFirstIn 2 table x) first) answer-by-rank,
+    ap (λ (r : Answer). contentAfter r (leftPastIn 2 table x) past) answer-by-rank,
+  )
+
+  -- A table that gives each byte its own number gives the answers of order 0.
+  module _ (own : (a : ℕ) → a < tableLength → getD table a 0 ≡ a) (bytes : (i : ℕ) → i < length x → getD x i 0 < tableLength) where
+    own-row : rankRow table x ≡ x
+    own-row = identity-row table x own bytes
+
+    pub left-forest-by-own-rank :
+        (leftForestRankedAnswer 2 table x (length first) (length past) ≡ leftForestRankedAnswer 0 t x (length first) (length past)) ×
+        (leftFirstRankedAfter 2 table x first past ≡ leftFirstRankedAfter 0 t x first past) ×
+        (leftPastRankedAfter 2 table x first past ≡ leftPastRankedAfter 0 t x first past)
+    left-forest-by-own-rank = (
+      left-forest-by-rank .0 ∙ ap (λ (y : List ℕ). leftForestRankedAnswer 0 t y (length first) (length past)) own-row,
+      left-forest-by-rank .1 ∙ ap (λ (y : List ℕ). leftFirstRankedAfter 0 t y first past) own-row,
+      left-forest-by-rank .2 ∙ ap (λ (y : List ℕ). leftPastRankedAfter 0 t y first past) own-row,
+    )
+
+-- Orders 0 and 1 do not look at the table: any two give one answer and one content of each buffer, also where the call refuses.
+pub left-forest-unranked : (order : ℕ) → order ≤ 1 → (table t x first past : List ℕ) →
+    (leftForestRankedAnswer order table x (length first) (length past) ≡ leftForestRankedAnswer order t x (length first) (length past)) ×
+    (leftFirstRankedAfter order table x first past ≡ leftFirstRankedAfter order t x first past) ×
+    (leftPastRankedAfter order table x first past ≡ leftPastRankedAfter order t x first past)
+left-forest-unranked zero l table t x first past = (refl, refl, refl)
+left-forest-unranked (suc zero) l table t x first past = (refl, refl, refl)
+left-forest-unranked (suc (suc order)) l table t x first past = absurd (omega arith)
+
+module _ (table x first past : List ℕ) where
+  -- Order 0 is the call without an order.
+  pub left-forest-rising :
+      (leftForestRankedAnswer 0 table x (length first) (length past) ≡ leftForestAnswer x (length first) (length past)) ×
+      (leftFirstRankedAfter 0 table x first past ≡ leftFirstAfter x first past) × (leftPastRankedAfter 0 table x first past ≡ leftPastAfter x first past)
+  left-forest-rising = (refl, refl, refl)
+
+  -- Order 1 is the definition under falling letters: a text of 1 to 1,048,576 letters, with two buffers that are long enough, is accepted, the
+  -- count is n, the first n places of both hold its left forest, and the others what they held before.
+  module _ (sized : Sized (length x)) (first-room : length x ≤ length first) (past-room : length x ≤ length past) where
+    pub left-forest-falling :
+        (leftForestRankedAnswer 1 table x (length first) (length past) ≡ acceptedWith (length x)) ×
+        IsLeftForest falling x (take (length x) (leftFirstRankedAfter 1 table x first past)) (take (length x) (leftPastRankedAfter 1 table x first past)) ×
+        (drop (length x) (leftFirstRankedAfter 1 table x first past) ≡ drop (length x) first) ×
+        (drop (length x) (leftPastRankedAfter 1 table x first past) ≡ drop (length x) past)
+    left-forest-falling =
+        let rest = left-forest-ranked-rest x sized first past first-room past-room 1 table (omega arith) (λ e. cc) in (
+          left-forest-ranked-accepts x sized first past first-room past-room 1 table (omega arith) (λ e. cc),
+          left-forest-ranked-written x sized first past first-room past-room 1 table (omega arith) (λ e. cc),
+          rest .0,
+          rest .1,
+        )

@@ -1,0 +1,22 @@
+-- `lyndon_c::lyndon_suffix_table_ranked` meets its contract: the library's answer and buffer are handed on.
+-- Assumes nothing.
+use Rattle.lyndon_c.proofs.HandedOn.{answer-handed-on, content-handed-on}
+use borrow.Author.Needs.{needs}
+use Rattle.lyndon_c.proofs.lyndon_suffix_table_ranked.Statement.{statement}
+use Rattle.lyndon_c.proofs.lyndon_suffix_table_ranked.Tie as tie
+
+suffix-table-ranked-requires : tie.Need-suffix-table-ranked-requires
+suffix-table-ranked-requires c κs = search needs
+
+exported-requires : tie.Need-exported-requires
+exported-requires c κs = search needs
+
+same-length : tie.Need-same-length
+same-length c = search needs
+
+returns : tie.Need-returns
+returns c = let a = c .before .before .before .suffix-table-ranked .ensures in (answer-handed-on _ _ _ (c .exported .ensures) (a .0), content-handed-on _ _ _ _ _ (a .0) (a .1))
+
+pub lyndon-suffix-table-ranked-spec : {M : Type 1} → statement M
+lyndon-suffix-table-ranked-spec =
+    tie.close (tie.spec suffix-table-ranked-requires exported-requires same-length returns)
