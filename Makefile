@@ -1,11 +1,11 @@
 # lib: the static library, proved and ready to link, beside include/lyndon.h. example: a C program that uses it.
-# bench: the benchmark. test: all tests.
+# bench: the benchmark. beside: the library beside an older one, OLD=.../liblyndon.a. test: all tests.
 CFLAGS = -O3 -Wall -Wextra -Iinclude -Ibench
 BENCH = bench/bench.c bench/families.c bench/reference.c bench/reference_factors.c bench/reference_ranked.c bench/reference_from_array.c \
 	bench/reference_reader.c bench/suffix_array.c
 DIVSUFSORT := $(shell $(CC) -E -include divsufsort.h -x c /dev/null > /dev/null 2>&1 && echo -DHAVE_DIVSUFSORT -ldivsufsort)
 
-.PHONY: lib example bench test clean
+.PHONY: lib example bench beside test clean
 
 lib:
 	rt staticlib lyndon_c
@@ -21,6 +21,9 @@ bench: lib
 	mkdir -p target/bench
 	$(CC) $(CFLAGS) -o target/bench/bench $(BENCH) target/lib/liblyndon.a $(DIVSUFSORT)
 	./target/bench/bench
+
+beside: lib
+	./scripts/beside $(OLD)
 
 test:
 	./run-tests

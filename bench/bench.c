@@ -230,19 +230,20 @@ static struct result table(const struct call *call) {
     return result;
 }
 
-/* By rank, and in order 0 through the same form, over the call without ranks, on the first family. Runs have no order. */
-static void ranked_over_plain(const char *name, void (*ranked)(size_t), void (*plain)(size_t)) {
-    double least[3] = {1e30, 1e30, 1e30};
+/* By rank, and in order 0 through the same form where it has an order, over the call without ranks, on the first family. */
+static void (*ranked_form)(size_t), (*plain_form)(size_t);
+static void without_ranks(size_t n) { order = LYNDON_RISING, plain_form(n); }
+static void by_rank(size_t n) { order = LYNDON_RANKED, ranked_form(n); }
+static void in_order_0(size_t n) { order = LYNDON_RISING, ranked_form(n); }
+
+static void ranked_over_plain(const char *name, void (*ranked)(size_t), void (*plain)(size_t), int has_order) {
+    double least[3];
+    ranked_form = ranked, plain_form = plain;
     family_fill(0, text, LARGEST);
-    for (int run = 0; run < RUNS; run++)
-        for (int c = 0; c < 3; c++) {
-            order = c == 0 ? LYNDON_RANKED : LYNDON_RISING;
-            double took = timed(c < 2 ? ranked : plain, LARGEST);
-            if (took < least[c]) least[c] = took;
-        }
-    printf("  %-28s %6.2f by rank", name, least[0] / least[2]);
-    if (plain != our_runs) printf(", %.2f in order 0", least[1] / least[2]);
-    printf("; 1.6 asked for by rank: %s\n", least[0] / least[2] <= 1.6 ? "met" : "not met");
+    best(has_order ? 3 : 2, (void (*const[])(size_t)){without_ranks, by_rank, in_order_0}, LARGEST, least);
+    printf("  %-28s %6.2f by rank", name, least[1] / least[0]);
+    if (has_order) printf(", %.2f in order 0", least[2] / least[0]);
+    printf("; 1.6 asked for by rank: %s\n", least[1] / least[0] <= 1.6 ? "met" : "not met");
 }
 
 #define TEXT_SIZES {65536, 262144, 1048576}
@@ -283,10 +284,10 @@ int main(void) {
         printf("\n");
     }
     printf("\nranked: over the call without ranks, on %s at the largest size\n", family_name(0));
-    ranked_over_plain("array of bytes", our_array_ranked, our_array);
-    ranked_over_plain("runs", our_runs_ranked, our_runs);
-    ranked_over_plain("factorization", our_factorization_ranked, our_factorization);
-    ranked_over_plain("suffix table", our_suffix_table_ranked, our_suffix_table);
-    ranked_over_plain("left forest", our_left_forest_ranked, our_left_forest);
+    ranked_over_plain("array of bytes", our_array_ranked, our_array, 1);
+    ranked_over_plain("runs", our_runs_ranked, our_runs, 0);
+    ranked_over_plain("factorization", our_factorization_ranked, our_factorization, 1);
+    ranked_over_plain("suffix table", our_suffix_table_ranked, our_suffix_table, 1);
+    ranked_over_plain("left forest", our_left_forest_ranked, our_left_forest, 1);
     return 0;
 }

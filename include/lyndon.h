@@ -34,7 +34,7 @@ extern "C" {
  *  13  there is no letter; the position is the input's length
  *  14  there is a 2,049th letter; the position is that letter's in the input
  *  15  the input is longer than 8,192 bytes; the position is 8192
- *  16  a rank table that is to be used has not 256 entries
+ *  16  a rank table that is to be used does not have 256 entries
  * Checks are made in the order 1, 2, 3, 16, 4, 5, then 6 and 7 in one pass, then 8; for FASTA 4, 15, 9, 10, then 11, 12 and 14 in one
  * pass, 13.
  */

@@ -10,7 +10,7 @@ pub struct Answer {
     pub value: u32,
 }
 
-mod c {
+pub mod c {
     use super::Answer;
 
     extern "C" {

@@ -18,7 +18,8 @@ impl Ranks {
     }
 
     /// Ranks by groups of letters: those of the first group have rank 0, those of the next 1, and so on; all letters that no group names
-    /// have the rank after the last group's. A group may be empty: then no letter has its rank.
+    /// have the rank after the last group's. A group may be empty: then no letter has its rank. A letter is a byte, so a string names the
+    /// bytes of its UTF-8.
     ///
     /// # Errors
     ///
@@ -75,8 +76,8 @@ impl From<[u8; 256]> for Ranks {
 pub enum GroupError {
     /// This letter is named twice, in one group or in two.
     NamedTwice(u8),
-    /// There are so many groups, empty ones counted, that the rank of a letter would be above 255. 256 groups fit where they name all
-    /// letters, 255 always.
+    /// There are so many groups, empty ones counted, that the rank of a letter would be above 255. 255 groups always fit; more fit where
+    /// the first 256 name all letters.
     TooMany(usize),
 }
 

@@ -113,16 +113,18 @@ fn ranked() {
         let list = |name: &str| numbers(want, name).unwrap_or_default();
         let answer = |count: usize| if want.get("no").is_some() { wanted(want) } else { Ok(count) };
         let (mut first, mut past) = (vec![0; n + 5], vec![0; n + 4]);
-        for (call, name) in common::RANKED_CALLS.iter().zip(["array", "factors", "prefix"]) {
+        for ((call_name, call), name) in common::RANKED_CALLS.iter().zip(["array", "factors", "prefix"]) {
             let got = call(&text, order, &table, &mut first);
-            common::compare(&what, got, &[&first], answer(list(name).len()), &[Some(&list(name))]);
+            common::compare(&format!("{call_name}, {what}"), got, &[&first], answer(list(name).len()), &[Some(&list(name))]);
         }
         let got = common::left_forest_ranked(&text, order, &table, &mut first, &mut past);
-        common::compare(&what, got, &[&first, &past], answer(n), &[Some(&list("first")), Some(&list("past"))]);
+        let forest = [Some(&list("first")[..]), Some(&list("past")[..])];
+        common::compare(&format!("ranked left forest, {what}"), got, &[&first, &past], answer(n), &forest);
         if order <= 2 {
             let (mut work, mut runs) = (vec![0; 2 * n + 5], vec![0; 6 * n + 5]);
             let got = common::runs_ranked(&text, &table, &mut work, &mut runs);
-            common::compare(&what, got, &[&work, &runs], answer(list("runs").len() / 3), &[Some(&list("work")), Some(&list("runs"))]);
+            let written = [Some(&list("work")[..]), Some(&list("runs")[..])];
+            common::compare(&format!("ranked runs, {what}"), got, &[&work, &runs], answer(list("runs").len() / 3), &written);
         }
         count += 1;
     }

@@ -79,25 +79,30 @@ fn check_reader(input: &[u8], places: usize) {
     common::compare_all(&what, got, &[&letters], &definitions::read_fasta(input, places));
 }
 
+/// A text as a failure shows it.
+fn shown(x: &[u8]) -> String {
+    format!("{} letters {:?}..", x.len(), &x[..x.len().min(60)])
+}
+
 /// The ranked calls that take an order; `past_places` is the length of the left forest's second buffer.
 fn check_ranked(x: &[u8], order: u32, table: &[u8], places: usize, past_places: usize) {
-    let what =
-        format!("{} letters {:?}.., order {order}, table {table:?}, {places} and {past_places} places", x.len(), &x[..x.len().min(60)]);
+    let what = format!("{}, order {order}, table {table:?}, {places} and {past_places} places", shown(x));
     let accepted = [definitions::array_accepted::<u8>, definitions::factors_accepted, definitions::suffix_table_accepted];
     let (mut first, mut past) = (room(places), room(past_places));
-    for (call, accepted) in common::RANKED_CALLS.iter().zip(accepted) {
+    for ((name, call), accepted) in common::RANKED_CALLS.iter().zip(accepted) {
         let got = call(x, order, table, &mut first);
-        common::compare_all(&what, got, &[&first], &definitions::ranked_answer(x, order, table, &[places], accepted));
+        let want = definitions::ranked_answer(x, order, table, &[places], accepted);
+        common::compare_all(&format!("{name} of {what}"), got, &[&first], &want);
     }
     let got = common::left_forest_ranked(x, order, table, &mut first, &mut past);
     let want = definitions::ranked_answer(x, order, table, &[places, past_places], definitions::left_forest_accepted);
-    common::compare_all(&what, got, &[&first, &past], &want);
+    common::compare_all(&format!("ranked left forest of {what}"), got, &[&first, &past], &want);
 }
 
 fn check_runs_ranked(x: &[u8], table: &[u8], work_places: usize, list_places: usize) {
     let (mut work, mut list) = (room(work_places), room(list_places));
     let got = common::runs_ranked(x, table, &mut work, &mut list);
-    let what = format!("runs of {} letters, table {table:?}, {work_places} and {list_places} places", x.len());
+    let what = format!("ranked runs of {}, table {table:?}, {work_places} and {list_places} places", shown(x));
     common::compare_all(&what, got, &[&work, &list], &definitions::runs_ranked_answer(x, table, work_places, list_places));
 }
 
@@ -603,17 +608,17 @@ fn check_long(name: &str, x: &[u8], runs: fn(&[u8]) -> Vec<u32>) {
     let (count, arrays) = (lists.runs.len() / 3, lists.arrays.concat());
     common::compare(&format!("runs, {name}"), got, &[&work, &list], Ok(count), &[Some(&arrays), Some(&lists.runs)]);
 
-    for input in common::ranked_inputs(&mut Numbers::new(n as u64), x) {
-        let what = format!("ranked, order {}, {name}", input.order);
-        for (call, want) in common::RANKED_CALLS.iter().zip(lists.ranked()) {
+    for input in common::ranked_inputs(&mut Numbers::for_text(x), x) {
+        let what = format!("order {}, {name}", input.order);
+        for ((call_name, call), want) in common::RANKED_CALLS.iter().zip(lists.ranked()) {
             let got = call(&input.text, input.order, &input.table, &mut out);
-            common::compare(&what, got, &[&out], Ok(want.len()), &[Some(want)]);
+            common::compare(&format!("{call_name}, {what}"), got, &[&out], Ok(want.len()), &[Some(want)]);
         }
         let got = common::left_forest_ranked(&input.text, input.order, &input.table, &mut first, &mut past);
-        common::compare(&what, got, &[&first, &past], Ok(n), &[Some(&lists.first), Some(&lists.past)]);
+        common::compare(&format!("ranked left forest, {what}"), got, &[&first, &past], Ok(n), &[Some(&lists.first), Some(&lists.past)]);
         if input.order == 2 {
             let got = common::runs_ranked(&input.text, &input.table, &mut work, &mut list);
-            common::compare(&what, got, &[&work, &list], Ok(count), &[Some(&arrays), Some(&lists.runs)]);
+            common::compare(&format!("ranked runs, {name}"), got, &[&work, &list], Ok(count), &[Some(&arrays), Some(&lists.runs)]);
         }
     }
 }
@@ -800,7 +805,7 @@ fn ranked_forms_that_allocate() {
         for table in rank_tables(&mut numbers) {
             let ranks = Ranks::new(table[..].try_into().unwrap());
             for order in [Order::Rising.into(), Order::Falling.into(), LetterOrder::from(&ranks)] {
-                let written = common::RANKED_CALLS.map(|call| {
+                let written = common::RANKED_CALLS.map(|(_, call)| {
                     let mut out = room(n);
                     call(&x, order.number(), &table, &mut out).map(|count| out[..count].to_vec())
                 });

@@ -4,7 +4,7 @@ mod common;
 mod definitions;
 mod faster;
 
-use common::{Numbers, RankedInput};
+use common::{ffi, Numbers, RankedInput};
 use faster::Lists;
 use lyndon::Error;
 use std::ffi::c_void;
@@ -104,7 +104,7 @@ fn check_text(x: &[u8], side: Side) {
     let got = common::runs(text.slice(), work.slice(), list.slice());
     let (count, arrays) = (lists.runs.len() / 3, lists.arrays.concat());
     common::compare(&what, got, &[work.slice(), list.slice()], full(count), &[Some(&arrays), Some(&lists.runs)]);
-    for input in common::ranked_inputs(&mut Numbers::new(n as u64), x) {
+    for input in common::ranked_inputs(&mut Numbers::for_text(x), x) {
         check_ranked(&input, &lists, side);
     }
     for entries in &lists.arrays {
@@ -151,16 +151,18 @@ fn check_ranked(input: &RankedInput, lists: &Lists, side: Side) {
                 _ => Err(Error { number: short, position: 0 }),
             };
             let (mut cut, mut out) = (room(n - missing, side), room(n, side));
-            for (call, want) in common::RANKED_CALLS.iter().zip(lists.ranked()) {
+            for ((name, call), want) in common::RANKED_CALLS.iter().zip(lists.ranked()) {
                 let got = call(text.slice(), order, table.slice(), cut.slice());
-                common::compare(&what, got, &[cut.slice()], answer(want.len(), 4), &[Some(want)]);
+                common::compare(&format!("{name}, {what}"), got, &[cut.slice()], answer(want.len(), 4), &[Some(want)]);
             }
+            let what = format!("ranked left forest, {what}");
             let (first, past) = (Some(&lists.first[..]), Some(&lists.past[..]));
             let got = common::left_forest_ranked(text.slice(), order, table.slice(), cut.slice(), out.slice());
             common::compare(&what, got, &[cut.slice(), out.slice()], answer(n, 4), &[first, past]);
             let got = common::left_forest_ranked(text.slice(), order, table.slice(), out.slice(), cut.slice());
             common::compare(&what, got, &[out.slice(), cut.slice()], answer(n, 4), &[first, past]);
             if order == 2 {
+                let what = format!("ranked runs, guarded, {side:?}, {n} letters");
                 let (count, arrays) = (lists.runs.len() / 3, lists.arrays.concat());
                 for (work_missing, list_missing, short) in [(0, missing, 4), (missing, 0, 5)] {
                     let (mut work, mut list) = (room(2 * n - work_missing, side), room(6 * n - list_missing, side));
@@ -169,6 +171,38 @@ fn check_ranked(input: &RankedInput, lists: &Lists, side: Side) {
                     common::compare(&what, got, &[work.slice(), list.slice()], answer(count, short), &written);
                 }
             }
+        }
+    }
+}
+
+/// In orders 0 and 1 no byte of the table is read: here all of them are forbidden, and what is written is what is written with no table.
+#[test]
+fn tables_that_no_order_looks_at() {
+    let pages = Guarded::new(&[0u8; 0], Side::End);
+    let forbidden = pages.content;
+    let calls = [ffi::c::lyndon_array_ranked, ffi::c::lyndon_factorization_ranked, ffi::c::lyndon_suffix_table_ranked];
+    let longest = common::fibonacci(5000);
+    for (text, order) in [&b"a"[..], b"abbababaababbaba", b"TtGgCcAa", &longest].into_iter().flat_map(|text| [(text, 0), (text, 1)]) {
+        let n = text.len();
+        let (mut out, mut other, mut want, mut want_other) = (vec![0; n + 1], vec![0; n + 1], vec![0; n + 1], vec![0; n + 1]);
+        for entries in [0, 1, 255, 256, 257, PAGE] {
+            for ((name, with_none), call) in common::RANKED_CALLS.iter().zip(calls) {
+                let wanted = with_none(text, order, &[], &mut want);
+                common::fill(&mut out);
+                let answer = unsafe { call(text.as_ptr(), n, order, forbidden, entries, out.as_mut_ptr(), n + 1) };
+                assert_eq!((common::result(answer), &out), (wanted, &want), "{name}, order {order}, {entries} entries");
+            }
+            let wanted = common::left_forest_ranked(text, order, &[], &mut want, &mut want_other);
+            common::fill(&mut out);
+            common::fill(&mut other);
+            let (first, past) = (out.as_mut_ptr(), other.as_mut_ptr());
+            let answer =
+                unsafe { ffi::c::lyndon_left_forest_ranked(text.as_ptr(), n, order, forbidden, entries, first, n + 1, past, n + 1) };
+            assert_eq!(
+                (common::result(answer), &out, &other),
+                (wanted, &want, &want_other),
+                "left forest, order {order}, {entries} entries"
+            );
         }
     }
 }

@@ -93,6 +93,43 @@ fn worked_examples_by_rank() {
     assert_eq!(lyndon::runs_ranked(b"aAaa", &few).unwrap(), [Run { start: 0, last: 3, period: 1 }]);
 }
 
+/// The README's group: T first, then G, C and A, in either case.
+#[test]
+fn a_groups_own_order() {
+    let ranks = Ranks::from_groups(&["Tt", "Gg", "Cc", "Aa"]).unwrap();
+    assert_eq!(lyndon::lyndon_array_ranked(b"TaTAt", &ranks).unwrap(), [2, 1, 2, 1, 1]);
+    let wanted = [Run { start: 0, last: 5, period: 2 }, Run { start: 6, last: 8, period: 1 }];
+    assert_eq!(lyndon::runs_ranked(b"GAgaGAttT", &ranks).unwrap(), wanted);
+}
+
+/// The ranked forms with buffers: one place short, and with places to spare.
+#[test]
+fn ranked_forms_with_buffers() {
+    let (text, order) = (b"bBaA", LetterOrder::Falling);
+    let ranks = Ranks::from_groups(&["aA", "bB"]).unwrap();
+    let short = Err(lyndon::Error { number: 4, position: 0 });
+    let (mut cut, mut out, mut other) = ([9; 3], [9; 5], [9; 5]);
+    assert_eq!(lyndon::lyndon_array_ranked_into(text, order, &mut cut), short);
+    assert_eq!(lyndon::factorization_ranked_into(text, order, &mut cut), short);
+    assert_eq!(lyndon::suffix_table_ranked_into(text, order, &mut cut), short);
+    assert_eq!(lyndon::left_forest_ranked_into(text, order, &mut out, &mut cut), short);
+    assert_eq!(lyndon::left_forest_ranked_into(text, order, &mut cut, &mut out), short);
+    let (mut work, mut list, mut cut_work, mut cut_list) = ([9; 9], [9; 25], [9; 7], [9; 23]);
+    assert_eq!(lyndon::runs_ranked_into(text, &ranks, &mut work, &mut cut_list), short);
+    assert_eq!(lyndon::runs_ranked_into(text, &ranks, &mut cut_work, &mut list), Err(lyndon::Error { number: 5, position: 0 }));
+    assert_eq!((cut, out, work, list, cut_work, cut_list), ([9; 3], [9; 5], [9; 9], [9; 25], [9; 7], [9; 23]));
+
+    assert_eq!((lyndon::lyndon_array_ranked_into(text, order, &mut out), out), (Ok(4), [4, 1, 2, 1, 9]));
+    assert_eq!((lyndon::lyndon_array_ranked_into(text, &ranks, &mut out), out), (Ok(4), [1, 1, 1, 1, 9]));
+    assert_eq!((lyndon::factorization_ranked_into(text, order, &mut out), out), (Ok(1), [0, 1, 1, 1, 9]));
+    assert_eq!((lyndon::factorization_ranked_into(text, &ranks, &mut out), out), (Ok(4), [0, 1, 2, 3, 9]));
+    assert_eq!((lyndon::suffix_table_ranked_into(text, order, &mut out), out), (Ok(4), [1, 2, 3, 4, 9]));
+    let forest = lyndon::left_forest_ranked_into(text, &ranks, &mut out, &mut other);
+    assert_eq!((forest, out, other), (Ok(4), [0, 1, 2, 3, 9], [0, 1, 2, 3, 9]));
+    assert_eq!(lyndon::runs_ranked_into(text, &ranks, &mut work, &mut list), Ok(2));
+    assert_eq!((&work, &list[..7]), (&[1, 1, 1, 1, 4, 3, 1, 1, 9], &[0, 1, 1, 2, 3, 1, 9][..]));
+}
+
 #[test]
 fn ranks_by_groups() {
     let ranks = Ranks::from_groups(&[b"Tt".as_slice(), b"", b"C"]).unwrap();
@@ -114,6 +151,14 @@ fn ranks_by_groups() {
     assert_eq!((error, &error.to_string()[..]), (GroupError::TooMany(256), "256 groups are too many: a rank would be above 255"));
     groups.push(last.into_iter().collect());
     assert_eq!(Ranks::from_groups(&groups), Err(GroupError::TooMany(257)));
+    // Groups past the 256th do no harm where they name no letter and none is left over; a letter named twice is told first.
+    groups.swap(255, 256);
+    assert_eq!(Ranks::from_groups(&groups).unwrap().rank(255), 255);
+    groups[256].push(7);
+    assert_eq!(Ranks::from_groups(&groups), Err(GroupError::NamedTwice(7)));
+    let all: Vec<u8> = (0..=255).collect();
+    assert_eq!(Ranks::from_groups(&[all]), Ok(Ranks::from([0; 256])));
+    assert_eq!(Ranks::from_groups(&[""]), Ok(Ranks::from([1; 256])));
     groups.truncate(255);
     assert_eq!(Ranks::from_groups(&groups).unwrap().rank(255), 255);
 }

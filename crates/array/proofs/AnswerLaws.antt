@@ -13,7 +13,7 @@ use Rattle.words.specs.Compute.LyndonArray.{arrayOf, arrayOf-holds}
 use Rattle.words.specs.Laws.Unique.{array-unique}
 use Rattle.words.specs.Laws.OrderedAlike.{alike-array}
 use Rattle.checks.specs.Checks.{orderedTextChecked, rankedTextChecked, runsChecked, rankedRunsChecked, usesTable, answerTo, Adds}
-use Rattle.checks.specs.CheckLaws.{answered-by, ordered-text-passed, ranked-text-passed, runs-passed, ranked-runs-passed}
+use Rattle.checks.specs.CheckLaws.{answered-by, table-unused, ordered-text-passed, ranked-text-passed, runs-passed, ranked-runs-passed}
 use Rattle.answer.specs.AfterCall.{written, contentAfter}
 use Rattle.answer.specs.declared.Answer.{Answer}
 use Rattle.answer.specs.Answers.{acceptedWith}
@@ -24,7 +24,7 @@ use Rattle.letters.specs.Ranks.{rankRow}
 use Rattle.letters.specs.Keys.{rankTable, turnedTable, keyTable}
 use Rattle.letters.specs.RankLaws.{Bytes, row-length, rank-table-row, rank-table-bytes, turned-alike}
 use Rattle.array.specs.Calls.{arrayIn, runList, runNumbers, bothArrays}
-use Rattle.array.specs.RankTheorems.{unranked-array, table-unused}
+use Rattle.array.specs.RankTheorems.{unranked-array}
 use Rattle.array.specs.Core.Fill.{RoomWhere}
 use Rattle.array.specs.Core.RunPass.{FindReady, ReadyWhere}
 
@@ -77,7 +77,7 @@ keyed-array (suc (suc zero)) table x text ranks l fits = ap (arrayOf decided-ris
 keyed-array (suc (suc (suc order))) table x text ranks l fits = absurd (omega arith)
 
 -- No table is a table of bytes.
-no-bytes : Bytes []
+pub no-bytes : Bytes []
 no-bytes = record { byte = λ i. omega arith }
 
 -- What `lyndon_array` writes by the keys of its order, and `lyndon_array_ranked` by those of its own.
@@ -123,11 +123,8 @@ module _ (ranks x work list : List ℕ) where
         fits e = let known = ranked-runs-passed (length x) entries (length list) (length work) checked e in row-ready (known .0, known .1, known .2)
 
 -- The keys of the runs are bytes.
-pub plain-keys : (keys : List ℕ) → keys ≡ rankTable 0 [] → Bytes keys
-plain-keys keys e = subst Bytes (sym e) (rank-table-bytes 0 [] no-bytes)
-
-pub ranked-keys : (keys table : List ℕ) → Bytes table → keys ≡ rankTable 2 table → Bytes keys
-ranked-keys keys table ranks e = subst Bytes (sym e) (rank-table-bytes 2 table ranks)
+pub ranked-keys : (order : ℕ) (keys table : List ℕ) → Bytes table → keys ≡ rankTable order table → Bytes keys
+ranked-keys order keys table ranks e = subst Bytes (sym e) (rank-table-bytes order table ranks)
 
 -- By the ranks of order 0 the row is the text.
 pub plain-row : (x : List ℕ) → Bytes x → (keys : List ℕ) → keys ≡ rankTable 0 [] → rankRow keys x ≡ x

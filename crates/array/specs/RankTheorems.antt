@@ -17,22 +17,16 @@ use Rattle.answer.specs.Answers.{acceptedWith}
 use Rattle.answer.specs.Limits.{Sized, rankedOrder, tableLength, runListLength, workLength}
 use Rattle.answer.specs.AfterCall.{contentAfter}
 use Rattle.answer.specs.AfterLaws.{written-first, written-rest}
-use Rattle.checks.specs.Checks.{textChecked, runsChecked, usesTable}
-use Rattle.checks.specs.CheckLaws.{text-passes, ordered-text-as, ranked-text-as, ranked-runs-as}
+use Rattle.checks.specs.Checks.{outputChecked, runsChecked, usesTable}
+use Rattle.checks.specs.CheckLaws.{text-passes, table-unused, ordered-text-as, ranked-text-as, ranked-runs-as}
 use Rattle.letters.specs.Ranks.{rankRow, rowIn, directionOf}
-use Rattle.letters.specs.RankLaws.{row-length, row-in-length, identity-row}
+use Rattle.letters.specs.RankLaws.{row-length, row-in-length, row-checked, identity-row}
 use Rattle.array.specs.Calls.{arrayAnswer, arrayRankedAnswer, arrayIn, runList, runNumbers, bothArrays, runsAnswer, runsRankedAnswer}
 use Rattle.array.specs.Theorems.{arrayAfter, listAfter, workAfter, runs-accepts, runs-listed, runs-written, runs-rest, work-rising, work-falling, work-rest}
 
 -- What `lyndon_array_ranked` leaves in its buffer, by its contract.
 abbrev pub arrayRankedAfter : ℕ → List ℕ → List ℕ → List ℕ → List ℕ
 arrayRankedAfter order table x out = contentAfter (arrayRankedAnswer (length x) order (length table) (length out)) (arrayIn order table x) out
-
--- Orders 0 and 1 use no table.
-pub table-unused : (order : ℕ) → order ≤ 1 → ¬ (usesTable order ≡ true)
-table-unused zero l t = let z : _≡_ {A = ℕ} 0 1 = cc in omega arith
-table-unused (suc zero) l t = let z : _≡_ {A = ℕ} 0 1 = cc in omega arith
-table-unused (suc (suc order)) l t = omega arith
 
 pub unranked-array : (order : ℕ) → order ≤ 1 → (table x : List ℕ) → arrayIn order table x ≡ arrayOf (decided-order order) x
 unranked-array zero l table x = refl
@@ -56,9 +50,7 @@ module _ (table : List ℕ) (whole : length table ≡ tableLength) (t x out : Li
       (arrayRankedAnswer (length x) 2 (length table) (length out) ≡ arrayRankedAnswer (length (rankRow table x)) 0 (length t) (length out)) ×
       (arrayRankedAfter 2 table x out ≡ arrayRankedAfter 0 t (rankRow table x) out)
   array-by-rank =
-      let answer : arrayRankedAnswer (length x) 2 (length table) (length out) ≡ arrayRankedAnswer (length (rankRow table x)) 0 (length t) (length out) =
-      ranked-text-as (length x) _ 2 (length table) (omega arith) (λ u. whole) (length out) ∙
-      ap (λ (n : ℕ). textChecked n (length out) (acceptedWith n)) (sym (row-length table x)) in
+      let answer = row-checked table t x whole (λ n. outputChecked n (length out) (acceptedWith n)) in
       (answer, ap (λ (r : Answer). contentAfter r (arrayIn 2 table x) out) answer)
 
   -- A table that gives each byte its own number gives the answers of order 0.

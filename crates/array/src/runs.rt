@@ -75,7 +75,9 @@ fn write_entry(list: &mut [u32], count: usize, start: usize, last: usize, period
     list[3 * count + 2] = period as u32;
 }
 
-// Lists the run whose last root starts at i, if there is one; the number of entries then.
+// Lists the run whose last root starts at i, if there is one; the number of entries then. The keys say how
+// letters compare; the order, 0 or 1, tells the two passes apart: runs that reach the end of the text are
+// those of the first.
 fn list_at(
     text: &[u8],
     order: u32,

@@ -2,7 +2,7 @@
 -- Assumes nothing.
 use mathlib.Core.Path.{_≡_, refl, sym, ap, _∙_}
 use mathlib.Core.Bool.{Bool, true, false, not, _&&_}
-use Prim.Native.Nat.{ℕ, _<_, _≤_}
+use Prim.Native.Nat.{ℕ, zero, suc, _<_, _≤_}
 use native.Mathlib.Omega.{arith}
 use borrow.Author.Tests.{lt-ltb, le-ltb, eq-eqb, ne-eqb, ltb-false, eqb-true, eqb-false, not-false}
 use lib.Dec.{ltb, eqb}
@@ -185,20 +185,27 @@ module _ (n : ℕ) (sized : Sized n) where
     runs-passes list work list-room work-room =
         array-passes _ ∙ output-passes _ (runListLength n) list list-room ∙ work-passes rest (workLength n) work work-room
 
+-- Orders 0 and 1 use no table.
+pub table-unused : (order : ℕ) → order ≤ 1 → ¬ (usesTable order ≡ true)
+table-unused zero l t = let z : _≡_ {A = ℕ} 0 1 = cc in omega arith
+table-unused (suc zero) l t = let z : _≡_ {A = ℕ} 0 1 = cc in omega arith
+table-unused (suc (suc order)) l t = omega arith
+
 -- Checks with an order number that the call takes, and with a table that fits where it is used, are those of the call without them.
+module _ (n order entries : ℕ) (named : order ≤ rankedOrder) (fits : usesTable order ≡ true → entries ≡ tableLength) (rest : Answer) where
+  pub ranked-as : rankedChecked n order entries rest ≡ lengthChecked maxLength n rest
+  ranked-as = ap (lengthChecked maxLength n) (order-passes _ rankedOrder order named ∙ table-passes rest (usesTable order) entries fits)
+
 module _ (n : ℕ) (rest : Answer) where
   pub ordered-text-as : (order given : ℕ) → order ≤ 1 → orderedTextChecked n order given rest ≡ textChecked n given rest
   ordered-text-as order given named = ap (lengthChecked maxLength n) (order-passes _ 1 order named)
 
   module _ (order entries : ℕ) (named : order ≤ rankedOrder) (fits : usesTable order ≡ true → entries ≡ tableLength) where
-    ranked-as : (after : Answer) → rankedChecked n order entries after ≡ lengthChecked maxLength n after
-    ranked-as after = ap (lengthChecked maxLength n) (order-passes _ rankedOrder order named ∙ table-passes after (usesTable order) entries fits)
-
     pub ranked-text-as : (given : ℕ) → rankedTextChecked n order entries given rest ≡ textChecked n given rest
-    ranked-text-as given = ranked-as _
+    ranked-text-as given = ranked-as n order entries named fits _
 
     pub ranked-forest-as : (first past : ℕ) → rankedForestChecked n order entries first past rest ≡ forestChecked n first past rest
-    ranked-forest-as first past = ranked-as _
+    ranked-forest-as first past = ranked-as n order entries named fits _
 
   pub ranked-runs-as : (entries list work : ℕ) → entries ≡ tableLength → rankedRunsChecked n entries list work rest ≡ runsChecked n list work rest
   ranked-runs-as entries list work fits = ap (lengthChecked maxLength n) (table-passes _ true entries (λ t. fits))

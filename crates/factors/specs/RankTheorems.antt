@@ -1,6 +1,6 @@
 -- The ranked calls by order and table (document 02, E1).
 -- Assumes nothing.
-use mathlib.Core.Path.{_≡_, refl, sym, ap, _∙_}
+use mathlib.Core.Path.{_≡_, refl, ap, _∙_}
 use mathlib.Core.List.{List}
 use Prim.Native.Nat.{ℕ, zero, suc, _<_, _≤_}
 use native.Mathlib.Omega.{arith}
@@ -14,30 +14,21 @@ use Rattle.answer.specs.declared.Answer.{Answer}
 use Rattle.answer.specs.Answers.{acceptedWith}
 use Rattle.answer.specs.AfterCall.{contentAfter}
 use Rattle.answer.specs.Limits.{Sized, tableLength}
-use Rattle.checks.specs.Checks.{rankedTextChecked}
-use Rattle.checks.specs.CheckLaws.{ranked-text-as}
+use Rattle.checks.specs.Checks.{outputChecked}
 use Rattle.letters.specs.Ranks.{rankRow}
-use Rattle.letters.specs.RankLaws.{row-length, identity-row}
+use Rattle.letters.specs.RankLaws.{row-checked, identity-row}
 use Rattle.factors.specs.Answers.{factorizationAnswer, suffixTableAnswer, factorsIn, suffixTableIn, factorizationRankedAnswer, suffixTableRankedAnswer}
 use Rattle.factors.specs.Theorems.{startsAfter, tableAfter, factorsRankedAfter, suffixTableRankedAfter, factorization-ranked-accepts, factorization-ranked-written, factorization-ranked-rest, suffix-table-ranked-accepts, suffix-table-ranked-written, suffix-table-ranked-rest}
 
 -- All answers by a table are those in order 0 for the row of ranks: over every table of 256 entries, every text, also one that is refused,
 -- and every buffer. In order 0 the table t is not looked at.
 module _ (table : List ℕ) (fits : length table ≡ tableLength) (t x out : List ℕ) where
-  -- The checks are the same.
-  same-checks : (count : ℕ → Answer) →
-      rankedTextChecked (length x) 2 (length table) (length out) (count (length x)) ≡
-      rankedTextChecked (length (rankRow table x)) 0 (length t) (length out) (count (length (rankRow table x)))
-  same-checks count =
-      ranked-text-as (length x) (count (length x)) 2 (length table) (omega arith) (λ e. fits) (length out) ∙
-      ap (λ (n : ℕ). rankedTextChecked n 0 (length t) (length out) (count n)) (sym (row-length table x))
-
   -- The factor list, answer and buffer.
   pub factors-by-rank :
       (factorizationRankedAnswer 2 table x (length out) ≡ factorizationRankedAnswer 0 t (rankRow table x) (length out)) ×
       (factorsRankedAfter 2 table x out ≡ factorsRankedAfter 0 t (rankRow table x) out)
   factors-by-rank =
-      let answer = same-checks (λ n. acceptedWith (length (factorsIn 2 table x))) in
+      let answer = row-checked table t x fits (λ n. outputChecked n (length out) (acceptedWith (length (factorsIn 2 table x)))) in
       (answer, ap (λ (r : Answer). contentAfter r (factorsIn 2 table x) out) answer)
 
   -- The Lyndon suffix table, answer and buffer.
@@ -45,7 +36,7 @@ module _ (table : List ℕ) (fits : length table ≡ tableLength) (t x out : Lis
       (suffixTableRankedAnswer 2 table x (length out) ≡ suffixTableRankedAnswer 0 t (rankRow table x) (length out)) ×
       (suffixTableRankedAfter 2 table x out ≡ suffixTableRankedAfter 0 t (rankRow table x) out)
   suffix-table-by-rank =
-      let answer = same-checks acceptedWith in
+      let answer = row-checked table t x fits (λ n. outputChecked n (length out) (acceptedWith n)) in
       (answer, ap (λ (r : Answer). contentAfter r (suffixTableIn 2 table x) out) answer)
 
   -- A table that gives each byte its own number gives the answers of order 0.

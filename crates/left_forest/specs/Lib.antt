@@ -3,3 +3,4 @@ pub mod Results
 pub mod Answers
 pub mod Theorems
 pub mod RankTheorems
+pub mod RankExamples

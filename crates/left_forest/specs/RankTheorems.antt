@@ -1,6 +1,6 @@
 -- The ranked call by order and table (document 02, E1).
 -- Assumes nothing.
-use mathlib.Core.Path.{_≡_, refl, sym, ap, _∙_}
+use mathlib.Core.Path.{_≡_, refl, ap, _∙_}
 use mathlib.Core.List.{List}
 use Prim.Native.Nat.{ℕ, zero, suc, _<_, _≤_}
 use native.Mathlib.Omega.{arith}
@@ -11,10 +11,9 @@ use Rattle.answer.specs.declared.Answer.{Answer}
 use Rattle.answer.specs.Answers.{acceptedWith}
 use Rattle.answer.specs.AfterCall.{contentAfter}
 use Rattle.answer.specs.Limits.{Sized, tableLength}
-use Rattle.checks.specs.Checks.{rankedForestChecked}
-use Rattle.checks.specs.CheckLaws.{ranked-forest-as}
+use Rattle.checks.specs.Checks.{outputChecked}
 use Rattle.letters.specs.Ranks.{rankRow}
-use Rattle.letters.specs.RankLaws.{row-length, identity-row}
+use Rattle.letters.specs.RankLaws.{row-checked, identity-row}
 use Rattle.left_forest.specs.Answers.{leftForestAnswer, leftFirstIn, leftPastIn, leftForestRankedAnswer}
 use Rattle.left_forest.specs.Theorems.{leftFirstAfter, leftPastAfter, leftFirstRankedAfter, leftPastRankedAfter, left-forest-ranked-accepts, left-forest-ranked-written, left-forest-ranked-rest}
 
@@ -23,9 +22,7 @@ use Rattle.left_forest.specs.Theorems.{leftFirstAfter, leftPastAfter, le
 module _ (table : List ℕ) (fits : length table ≡ tableLength) (t x first past : List ℕ) where
   answer-by-rank :
       leftForestRankedAnswer 2 table x (length first) (length past) ≡ leftForestRankedAnswer 0 t (rankRow table x) (length first) (length past)
-  answer-by-rank =
-      ranked-forest-as (length x) (acceptedWith (length x)) 2 (length table) (omega arith) (λ e. fits) (length first) (length past) ∙
-      ap (λ (n : ℕ). rankedForestChecked n 0 (length t) (length first) (length past) (acceptedWith n)) (sym (row-length table x))
+  answer-by-rank = row-checked table t x fits (λ n. outputChecked n (length first) (outputChecked n (length past) (acceptedWith n)))
 
   -- The left forest, answer and both buffers.
   pub left-forest-by-rank :

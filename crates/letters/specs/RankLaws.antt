@@ -17,9 +17,11 @@ use Rattle.words.specs.Letters.{rising, falling, Smaller}
 use Rattle.words.specs.Laws.SpanLyndon.{letters}
 use Rattle.words.specs.Laws.OrderedAlike.{Carries, OrderedAlike}
 use Rattle.words.specs.Laws.Tabulate.{length-tabulate, getD-tabulate}
+use Rattle.answer.specs.declared.Answer.{Answer}
 use Rattle.answer.specs.Limits.{tableLength}
-use Rattle.checks.specs.Checks.{usesTable}
-use Rattle.letters.specs.Ranks.{rankBy, rankRow, rowIn, rankDiffers}
+use Rattle.checks.specs.Checks.{usesTable, rankedChecked}
+use Rattle.checks.specs.CheckLaws.{ranked-as}
+use Rattle.letters.specs.Ranks.{rankBy, rankRow, rowIn, rankDiffers, ownNumbers}
 use Rattle.letters.specs.Keys.{rankIn, rankTable, turnedTable}
 
 -- A list of bytes.
@@ -55,6 +57,22 @@ own-row t (a ∷ x) h = ap₂ (λ (b : ℕ) (y : List ℕ). b ∷ y) (h 0 (omega
 pub identity-row : (table x : List ℕ) → ((a : ℕ) → a < tableLength → getD table a 0 ≡ a) → ((i : ℕ) → i < length x → getD x i 0 < tableLength) →
     rankRow table x ≡ x
 identity-row table x own bytes = own-row table x (λ i l. own (getD x i 0) (bytes i l))
+
+-- There is such a table.
+pub own-numbers-length : length ownNumbers ≡ tableLength
+unfolding ownNumbers
+own-numbers-length = length-tabulate (λ a. a) 0 tableLength
+
+pub own-numbers-entry : (a : ℕ) → a < tableLength → getD ownNumbers a 0 ≡ a
+unfolding ownNumbers
+own-numbers-entry a l = getD-tabulate (λ b. b) 0 tableLength a l ∙ zero-add a
+
+-- The checks in order 2, by a table of 256 entries, are those in order 0 of the row of ranks, where the table t is not measured.
+pub row-checked : (table t x : List ℕ) → length table ≡ tableLength → (after : ℕ → Answer) →
+    rankedChecked (length x) 2 (length table) (after (length x)) ≡ rankedChecked (length (rankRow table x)) 0 (length t) (after (length (rankRow table x)))
+row-checked table t x fits after =
+    ranked-as (length x) 2 (length table) (omega arith) (λ e. fits) (after (length x)) ∙
+    ap (λ (n : ℕ). rankedChecked n 0 (length t) (after n)) (sym (row-length table x))
 
 -- The row has as many letters as the text in every order.
 pub row-in-length : (order : ℕ) (table x : List ℕ) → length (rowIn order table x) ≡ length x

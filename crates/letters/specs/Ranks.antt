@@ -5,6 +5,8 @@ use mathlib.Core.List.{List, map}
 use Prim.Native.Nat.{ℕ}
 use lib.Dec.{eqb}
 use lib.ListN.{getD}
+use Rattle.words.specs.Tabulate.{tabulate}
+use Rattle.answer.specs.Limits.{tableLength}
 use Rattle.checks.specs.Checks.{usesTable}
 
 -- The rank of a letter by a table: its entry.
@@ -14,6 +16,10 @@ rankBy table a = getD table a 0
 -- The row of ranks of a text: two letters with one rank are the same letter in it.
 abbrev pub rankRow : List ℕ → List ℕ → List ℕ
 rankRow table x = map (rankBy table) x
+
+-- The table that gives each byte its own number.
+unfoldable pub ownNumbers : List ℕ
+ownNumbers = tabulate (λ a. a) 0 tableLength
 
 -- What is compared in an order: the ranks in order 2, the letters themselves in orders 0 and 1.
 abbrev pub rowIn : ℕ → List ℕ → List ℕ → List ℕ

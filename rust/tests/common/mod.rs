@@ -9,9 +9,9 @@ use lyndon::{Error, Order};
 
 /// The C interface with slices for pointers, as the crate itself has it: here any order number and any table can be asked for.
 #[path = "../../src/ffi.rs"]
-mod ffi;
+pub mod ffi;
 
-fn result(answer: ffi::Answer) -> Result<usize, Error> {
+pub fn result(answer: ffi::Answer) -> Result<usize, Error> {
     match answer.number {
         0 => Ok(answer.value as usize),
         number => Err(Error { number, position: answer.value }),
@@ -141,7 +141,9 @@ pub fn runs(text: &[u8], work: &mut [u32], list: &mut [u32]) -> Result<usize, Er
 /// A ranked call that writes one buffer: text, order number, table, buffer.
 pub type RankedCall = fn(&[u8], u32, &[u8], &mut [u32]) -> Result<usize, Error>;
 
-pub const RANKED_CALLS: [RankedCall; 3] = [array_ranked, factors_ranked, suffix_table_ranked];
+/// Each with its name.
+pub const RANKED_CALLS: [(&str, RankedCall); 3] =
+    [("ranked array", array_ranked), ("ranked factors", factors_ranked), ("ranked suffix table", suffix_table_ranked)];
 
 pub fn array_ranked(text: &[u8], order: u32, table: &[u8], out: &mut [u32]) -> Result<usize, Error> {
     fill(out);
@@ -183,6 +185,11 @@ pub struct Numbers(u64);
 impl Numbers {
     pub fn new(seed: u64) -> Numbers {
         Numbers(seed.wrapping_mul(0x9e37_79b9_7f4a_7c15) | 1)
+    }
+
+    /// Numbers for a text: others for another text, also of the same length.
+    pub fn for_text(x: &[u8]) -> Numbers {
+        Numbers::new(x.iter().fold(x.len() as u64, |seed, &letter| seed.wrapping_mul(0x0100_0000_01b3) ^ u64::from(letter)))
     }
 
     pub fn next(&mut self) -> u64 {

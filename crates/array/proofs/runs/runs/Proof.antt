@@ -1,7 +1,7 @@
 -- `array::runs::runs` meets its contract: the answer is that of the checks, and the keys are the letters' own numbers.
 -- Assumes nothing.
 use Rattle.letters.specs.RankLaws.{Bytes, fitting-bytes}
-use Rattle.array.proofs.AnswerLaws.{runs-ready, plain-keys, plain-row, found-as}
+use Rattle.array.proofs.AnswerLaws.{runs-ready, no-bytes, ranked-keys, plain-row, found-as}
 use borrow.Author.Needs.{needs}
 use Rattle.array.proofs.runs.runs.Statement.{statement}
 use Rattle.array.proofs.runs.runs.Tie as tie
@@ -19,7 +19,7 @@ rank-table-requires : tie.Need-rank-table-requires
 rank-table-requires c κs = search needs
 
 answered-requires : tie.Need-answered-requires
-answered-requires c κs = (search plain-keys, search runs-ready)
+answered-requires c κs = let table = no-bytes in (search ranked-keys, search runs-ready)
 
 same-length : tie.Need-same-length
 same-length c = search needs
