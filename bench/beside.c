@@ -16,7 +16,7 @@
 PADDING(PAD);
 
 #define LARGEST 1048576
-#define TURNS 9
+#define TURNS 11
 
 /* The older library has the calls of this one, but perhaps not those with ranks. */
 #define OLD(name) extern __typeof__(lyndon_##name) old_lyndon_##name __attribute__((weak))
