@@ -103,4 +103,6 @@ second-ready x y work work₁ list list₁ first n ready size same-size done =
     }
   where
     same : length work₁ ≡ length work
-    same = ap length (done .array) ∙ written-kept (arrayOf decided-rising x) work (length x) (arrayOf-holds decided-rising x .size) (omega (arith, ready .work-room)) .size
+    same =
+        let size = arrayOf-holds decided-rising x .size in
+        ap length (done .array) ∙ written-kept (arrayOf decided-rising x) work (length x) size (omega (arith, ready .work-room)) .size

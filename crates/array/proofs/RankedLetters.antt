@@ -42,7 +42,9 @@ module _ (ranks text : List ℕ) {order : ℕ} {before buf : List ℕ} {i j k₀
     pub ranked-told : {k′ : ℕ} {u v : Comparison} → r ≡ true → k < j - i →
         u ≡ comparisonOf (decided-order order .compare (rankBy ranks (getD text (i + k) 0)) (rankBy ranks (getD text (j + k) 0))) → k′ ≡ k → v ≡ u →
         Compared order (rankRow ranks text) i j k′ v
-    ranked-told differ in-word is-u is-k is-v = letter-told w g of-word of-factor h in-word (ranks-differ ranks (getD text (i + k) 0) (getD text (j + k) 0) e differ) is-u is-k is-v
+    ranked-told differ in-word is-u is-k is-v =
+        let ranks-apart = ranks-differ ranks (getD text (i + k) 0) (getD text (j + k) 0) e differ in
+        letter-told w g of-word of-factor h in-word ranks-apart is-u is-k is-v
 
     -- The word has ended without a difference, and what is remembered tells how far it agrees with the factor.
     pub ranked-settled : {k′ q : ℕ} {v : Comparison} → r ≡ false → k + 1 ≡ j - i → q ≡ settledAt buf j (j - i) l s → j - i ≤ q → k′ ≡ q → v ≡ Below →

@@ -15,7 +15,8 @@ use Rattle.checks.specs.declared.Check.{Check}
 use Rattle.checks.specs.declared.Check.the-variants.{Passed, Failed}
 use Rattle.answer.specs.Answers.{acceptedWith, refusedFor, refusedIf, accepted-apart}
 use Rattle.answer.specs.Limits.{Sized, maxLength, maxLetters, maxInput, runListLength, workLength, rankedOrder, tableLength}
-use Rattle.checks.specs.Checks.{limitChecked, lengthChecked, orderChecked, outputChecked, workChecked, inputChecked, textChecked, orderedTextChecked, forestChecked, runsChecked, readerChecked, answerTo, Adds}
+use Rattle.checks.specs.Checks.{limitChecked, lengthChecked, orderChecked, outputChecked, workChecked, inputChecked, textChecked}
+use Rattle.checks.specs.Checks.{orderedTextChecked, forestChecked, runsChecked, readerChecked, answerTo, Adds}
 use Rattle.checks.specs.Checks.{tableChecked, rankedChecked, rankedTextChecked, rankedForestChecked, rankedRunsChecked, usesTable}
 
 -- A check, and then another.

@@ -5,7 +5,8 @@ pub mod limits;
 use answer::Reason;
 ghost use Rattle.answer.specs.Limits.{maxLength, runListLength, workLength};
 ghost use Rattle.answer.specs.Answers.{refusedIf};
-ghost use Rattle.checks.specs.Checks.{Adds, emptyChecked, limitChecked, lengthChecked, orderChecked, outputChecked, workChecked, inputChecked, textChecked, orderedTextChecked, forestChecked, runsChecked, readerChecked};
+ghost use Rattle.checks.specs.Checks.{Adds, emptyChecked, limitChecked, lengthChecked, orderChecked, outputChecked, workChecked};
+ghost use Rattle.checks.specs.Checks.{inputChecked, textChecked, orderedTextChecked, forestChecked, runsChecked, readerChecked};
 ghost use Rattle.checks.specs.Checks.{tableChecked, rankedChecked, rankedTextChecked, rankedForestChecked, rankedRunsChecked};
 ghost use Rattle.checks.specs.declared.Check.the-variants.{Passed};
 

@@ -18,7 +18,8 @@ use Rattle.checks.specs.Checks.{outputChecked}
 use Rattle.letters.specs.Ranks.{rankRow}
 use Rattle.letters.specs.RankLaws.{row-checked, identity-row}
 use Rattle.factors.specs.Answers.{factorizationAnswer, suffixTableAnswer, factorsIn, suffixTableIn, factorizationRankedAnswer, suffixTableRankedAnswer}
-use Rattle.factors.specs.Theorems.{startsAfter, tableAfter, factorsRankedAfter, suffixTableRankedAfter, factorization-ranked-accepts, factorization-ranked-written, factorization-ranked-rest, suffix-table-ranked-accepts, suffix-table-ranked-written, suffix-table-ranked-rest}
+use Rattle.factors.specs.Theorems.{startsAfter, tableAfter, factorsRankedAfter, suffixTableRankedAfter, factorization-ranked-accepts, factorization-ranked-written}
+use Rattle.factors.specs.Theorems.{factorization-ranked-rest, suffix-table-ranked-accepts, suffix-table-ranked-written, suffix-table-ranked-rest}
 
 -- All answers by a table are those in order 0 for the row of ranks: over every table of 256 entries, every text, also one that is refused,
 -- and every buffer. In order 0 the table t is not looked at.

@@ -95,11 +95,14 @@ turned-written table before now n size w p q =
 
 -- The keys: turned round in order 1.
 module _ (order : ℕ) (table : List ℕ) where
+  keys-are : {b : Bool} → eqb order 1 ≡ b → (before : List ℕ) →
+      tableInto (cond b (turnedTable (rankTable order table)) (rankTable order table)) before ≡ tableInto (keyTable order table) before
+  keys-are e before = sym (ap (λ (b : Bool). tableInto (cond b (turnedTable (rankTable order table)) (rankTable order table)) before) e)
+
   pub keys-turned : order ≡ 1 → (ranks before after : List ℕ) → ranks ≡ rankTable order table → after ≡ tableInto (turnedTable ranks) before →
       after ≡ tableInto (keyTable order table) before
   keys-turned e ranks before after p q =
-      q ∙ ap (λ (t : List ℕ). tableInto (turnedTable t) before) p ∙ sym (ap (λ (b : Bool). tableInto (cond b (turnedTable (rankTable order table)) (rankTable order table)) before) (eq-eqb order 1 e))
+      q ∙ ap (λ (t : List ℕ). tableInto (turnedTable t) before) p ∙ keys-are (eq-eqb order 1 e) before
 
   pub keys-plain : ¬ (order ≡ 1) → (before after : List ℕ) → after ≡ tableInto (rankTable order table) before → after ≡ tableInto (keyTable order table) before
-  keys-plain d before after p =
-      p ∙ sym (ap (λ (b : Bool). tableInto (cond b (turnedTable (rankTable order table)) (rankTable order table)) before) (ne-eqb order 1 d))
+  keys-plain d before after p = p ∙ keys-are (ne-eqb order 1 d) before

@@ -14,7 +14,8 @@ use Rattle.words.specs.LyndonArray.{IsLyndonArray}
 use Rattle.words.specs.Factorization.{IsFactorization}
 use Rattle.words.specs.SuffixTable.{IsSuffixTable}
 use Rattle.words.specs.Runs.{Entry, IsRunList, SameLetter}
-use Rattle.words.specs.ExactlyOne.{ExactlyOne, NeitherTwoNorNone, Buffers, RightForestOf, LeftForestOf, array-for-all, factorization-for-all, suffix-table-for-all, right-forest-for-all, left-forest-for-all, run-list-for-all}
+use Rattle.words.specs.ExactlyOne.{ExactlyOne, NeitherTwoNorNone, Buffers, RightForestOf, LeftForestOf, array-for-all, factorization-for-all}
+use Rattle.words.specs.ExactlyOne.{suffix-table-for-all, right-forest-for-all, left-forest-for-all, run-list-for-all}
 use Rattle.words.specs.Laws.Letters.{Compared}
 use Rattle.words.specs.Laws.Lyndon.{LyndonTest}
 use Rattle.words.specs.Laws.SpanLyndon.{letters}

@@ -15,7 +15,9 @@ same-length : tie.Need-same-length
 same-length c = search needs
 
 returns : tie.Need-returns
-returns c = let a = c .before .before .before .read .ensures in (answer-handed-on _ _ _ (c .exported .ensures) (a .0), content-handed-on _ _ _ _ _ (a .0) (a .1))
+returns c =
+    let a = c .before .before .before .read .ensures in
+    (answer-handed-on _ _ _ (c .exported .ensures) (a .0), content-handed-on _ _ _ _ _ (a .0) (a .1))
 
 pub lyndon-read-fasta-spec : {M : Type 1} → statement M
 lyndon-read-fasta-spec =

@@ -8,7 +8,8 @@ use Rattle.words.specs.Letters.{Letters, Smaller}
 use Rattle.words.specs.Decided.{below}
 use Rattle.words.specs.Laws.Letters.{smaller-trans}
 use Rattle.words.specs.Laws.Position.{Agree, BelowFrom, BelowWithin, SpanLyndon, SpanLess, differs, shorter}
-use Rattle.words.specs.Laws.SuffixOrder.{SuffixLess, ends, parts, NextSmaller, earlier-difference, agree-less, agree-join, suffix-irrefl, suffix-trans, suffix-asym, below-suffix, suffix-cancel, suffix-prepend}
+use Rattle.words.specs.Laws.SuffixOrder.{SuffixLess, ends, parts, NextSmaller, earlier-difference, agree-less, agree-join, suffix-irrefl}
+use Rattle.words.specs.Laws.SuffixOrder.{suffix-trans, suffix-asym, below-suffix, suffix-cancel, suffix-prepend}
 
 module _ {ℓ κ} {A : Type ℓ} (O : Letters {ℓ, κ} A) (x : ℕ → A) (n : ℕ) where
   -- The empty suffix is the smallest one.

@@ -12,9 +12,12 @@ use borrow.Author.Needs.{needs}
 use Rattle.array.proofs.runs.find.Statement.{statement}
 use Rattle.array.proofs.runs.find.Tie as tie
 
--- The call, from the moment when the first order is done, and that order.
+-- From the moment when the first order is done: what is told of the text, and the call.
+abbrev entered : tie.After-slice-known4 → tie.After-shared-slice-known
+entered c = c .before .before .before .before .before .before .before .before .before
+
 abbrev start : tie.After-slice-known4 → tie.Start
-start c = c .before .before .before .before .before .before .before .before .before .before
+start c = entered c .before
 
 size : (c : tie.Start) → length (c .args .text .now) ≡ length (rankRow (c .args .keys .now) (c .args .text .now))
 size c = row-size (c .args .keys .now) (c .args .text .now)
@@ -62,12 +65,13 @@ bytes c = fitting-bytes (c .shared-slice-known .given)
 
 returns : tie.Need-returns
 returns c =
-    let second = c .before .before .before .before .before .before .before .before .before .before .before .before .before .before .before in
+    let passed = c .before .before .before .before .before .before .before .before in
+    let made = passed .before .before .before .before .before in
+    let second = made .before .before in
     let at = start second in
-    let falling = c .before .before .before .before .before .before .before .before .pass2 .ensures in
-    let turned = c .before .before .before .before .before .before .before .before .before .before .before .before .before .turned-table .ensures in
-    runs-found _ _ _ _ _ _ _ _ _ _ _ _ (second .before .before .before .before .pass .ensures) falling
-    (turned-row _ _ _ (bytes (second .before .before .before .before .before .before .before .before .before)) (at .pre .0) turned) (c .before .before .sort-triples .ensures) (at .pre .1) (size at)
+    let turned = turned-row _ _ _ (bytes (entered second)) (at .pre .0) (made .turned-table .ensures) in
+    runs-found _ _ _ _ _ _ _ _ _ _ _ _ (second .before .before .before .before .pass .ensures) (passed .pass2 .ensures) turned
+    (c .before .before .sort-triples .ensures) (at .pre .1) (size at)
 
 pub find-spec : {M : Type 1} → statement M
 find-spec =

@@ -37,7 +37,8 @@ returns c =
     let asked = done .before .before .before .before .before .before .before .before in
     let text = bytes (asked .before .before .before) in
     let made = done .answered .ensures in
-    found-as _ _ _ _ _ _ (λ e. plain-row _ text _ (done .before .before .before .before .before .rank-table .ensures)) (made .0) (made .1 .0) (made .1 .1) (asked .runs .ensures)
+    let keys = done .before .before .before .before .before .rank-table .ensures in
+    found-as _ _ _ _ _ _ (λ e. plain-row _ text _ keys) (made .0) (made .1 .0) (made .1 .1) (asked .runs .ensures)
 
 pub runs-spec : {M : Type 1} → statement M
 runs-spec =

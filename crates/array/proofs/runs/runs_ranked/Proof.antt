@@ -23,7 +23,10 @@ ranks : (c : tie.After-shared-slice-known2) → Bytes (c .before .before .args .
 ranks c = fitting-bytes (c .shared-slice-known2 .given)
 
 answered-requires : tie.Need-answered-requires
-answered-requires c κs = let table = ranks (c .before .before .before .before .before .before .before .before .before) in (search ranked-keys, search ranked-ready)
+answered-requires c κs =
+    let told = c .before .before .before .before .before .before .before .before .before in
+    let table = ranks told in
+    (search ranked-keys, search ranked-ready)
 
 same-length : tie.Need-same-length
 same-length c = search needs
@@ -37,8 +40,9 @@ returns c =
     let asked = done .before .before .before .before .before .before .before in
     let text = bytes (asked .before .before .before .before) in
     let made = done .answered .ensures in
-    found-as _ _ _ _ _ _ (ranked-row _ text _ _ _ _ (done .before .before .before .before .before .rank-table .ensures) (asked .ranked-runs .ensures)) (made .0) (made .1 .0) (made .1 .1)
-    (asked .ranked-runs .ensures)
+    let keys = done .before .before .before .before .before .rank-table .ensures in
+    let checked = asked .ranked-runs .ensures in
+    found-as _ _ _ _ _ _ (ranked-row _ text _ _ _ _ keys checked) (made .0) (made .1 .0) (made .1 .1) checked
 
 pub runs-ranked-spec : {M : Type 1} → statement M
 runs-ranked-spec =
