@@ -52,8 +52,8 @@ static void best(int count, void (*const calls[])(size_t), size_t n, double *lea
 
 /* The calls */
 
-static lyndon_answer accepted(size_t count) { return (lyndon_answer){0, (uint32_t)count}; }
-static lyndon_answer refused(uint32_t number, size_t n, size_t at) { return (lyndon_answer){number, (uint32_t)(number == 0 ? n : at)}; }
+static lyndon_answer accepted(size_t count) { return (lyndon_answer){0, (uint32_t)count, 0}; }
+static lyndon_answer refused(uint32_t number, size_t n, size_t at) { return (lyndon_answer){number, (uint32_t)(number == 0 ? n : at), 0}; }
 
 static void our_array(size_t n) { ours.answer = lyndon_array_u8(text, n, order, ours.first, n); }
 static void their_array(size_t n) { reference_array_u8(text, n, order, theirs.first), theirs.answer = accepted(n); }
@@ -66,7 +66,11 @@ static void our_runs(size_t n) { ours.answer = lyndon_runs(text, n, ours.first, 
 static void their_runs(size_t n) { theirs.answer = accepted(reference_runs(text, n, theirs.first, theirs.second)); }
 
 static void our_factorization(size_t n) { ours.answer = lyndon_factorization(text, n, ours.first, n); }
-static void their_factorization(size_t n) { theirs.answer = accepted(reference_factorization(text, n, theirs.first)); }
+static void their_factorization(size_t n) {
+    uint32_t comparisons;
+    theirs.answer = accepted(reference_factorization(text, n, theirs.first, &comparisons));
+    theirs.answer.comparisons = comparisons;
+}
 
 static void our_suffix_table(size_t n) { ours.answer = lyndon_suffix_table(text, n, ours.first, n); }
 static void their_suffix_table(size_t n) { reference_suffix_table(text, n, theirs.first), theirs.answer = accepted(n); }
@@ -96,7 +100,11 @@ static void our_runs_ranked(size_t n) { ours.answer = lyndon_runs_ranked(text, n
 static void their_runs_ranked(size_t n) { theirs.answer = accepted(reference_runs_ranked(ranks, text, n, theirs.first, theirs.second)); }
 
 static void our_factorization_ranked(size_t n) { ours.answer = lyndon_factorization_ranked(text, n, order, ranks, 256, ours.first, n); }
-static void their_factorization_ranked(size_t n) { theirs.answer = accepted(reference_factorization_ranked(ranks, text, n, theirs.first)); }
+static void their_factorization_ranked(size_t n) {
+    uint32_t comparisons;
+    theirs.answer = accepted(reference_factorization_ranked(ranks, text, n, theirs.first, &comparisons));
+    theirs.answer.comparisons = comparisons;
+}
 
 static void our_suffix_table_ranked(size_t n) { ours.answer = lyndon_suffix_table_ranked(text, n, order, ranks, 256, ours.first, n); }
 static void their_suffix_table_ranked(size_t n) { reference_suffix_table_ranked(ranks, text, n, theirs.first), theirs.answer = accepted(n); }
@@ -153,19 +161,7 @@ static void arrays(int f, size_t n) {
     if (f == 3) numbers[n - 1] = 2;
 }
 
-static const char *record_names[] = {"one line", "lines of 60 letters", "a letter a line, CR LF", "lines of 60, cases mixed"};
-static const char *record_name(int f) { return record_names[f]; }
-static void records(int f, size_t n) {
-    size_t width = f == 0 ? n : f == 2 ? 1 : 60, i = 4;
-    memcpy(text, ">m1\n", 4);
-    for (size_t in_line = 0; i < n; i++) {
-        if (in_line == width && i + 1 < n) {
-            if (f == 2) text[i++] = '\r';
-            text[i] = '\n', in_line = 0;
-        } else
-            text[i] = (uint8_t)(f == 3 ? "ACGTacgt"[random_number() & 7] : "ACGT"[random_number() & 3]), in_line++;
-    }
-}
+static void records(int r, size_t n) { record_fill(r, text, n); }
 
 /* The tables */
 
@@ -265,7 +261,7 @@ int main(void) {
         {"left forest, ranked", 2, our_left_forest_ranked, their_left_forest_ranked, 0, texts, family_count(), family_name, TEXT_SIZES, 0},
         {"right forest", 0, our_right_forest, their_right_forest, 0, arrays, family_count() + 4, array_name, TEXT_SIZES, 2.5},
         {"reconstruct", 0, our_reconstruct, their_reconstruct, 0, arrays, family_count() + 4, array_name, TEXT_SIZES, 2.5},
-        {"FASTA reader", 0, our_reader, their_reader, 0, records, 4, record_name, {512, 1024, 2048}, 0},
+        {"FASTA reader", 0, our_reader, their_reader, 0, records, record_count(), record_name, {512, 1024, 2048}, 0},
     };
     int count = (int)(sizeof calls / sizeof calls[0]);
     static struct result results[32];

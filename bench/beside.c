@@ -1,5 +1,5 @@
 /* Times this library beside an older one whose names have `old_` before them (scripts/beside makes that one). Both are in one program and
- * take turns. Prints a line for each call, size and family: nanoseconds a letter now and before, and below 1,000 letters nanoseconds a call.
+ * take turns. Prints a line for each call, size and family: nanoseconds a letter now and before, and below 10,000 letters nanoseconds a call.
  * What the two write is compared in full. PAD bytes stand before the functions, so that they can be laid out in several ways. */
 #include "families.h"
 #include "lyndon.h"
@@ -18,7 +18,8 @@ PADDING(PAD);
 #define LARGEST 1048576
 #define TURNS 11
 
-/* The older library has the calls of this one, but perhaps not those with ranks. */
+/* The older library has the calls of this one, but perhaps not those with ranks. Its answers may lack the comparisons; they are declared as
+ * this library's all the same, which does no harm where both come back in registers, and nothing looks at them. */
 #define OLD(name) extern __typeof__(lyndon_##name) old_lyndon_##name __attribute__((weak))
 OLD(array_u8);
 OLD(array_u32);
@@ -26,6 +27,9 @@ OLD(runs);
 OLD(factorization);
 OLD(suffix_table);
 OLD(left_forest);
+OLD(right_forest);
+OLD(reconstruct);
+OLD(read_fasta);
 OLD(array_ranked);
 OLD(runs_ranked);
 OLD(factorization_ranked);
@@ -54,24 +58,41 @@ SAME(runs, runs, text, n, b->first, 2 * n, b->second, 6 * n)
 SAME(factorization, factorization, text, n, b->first, n)
 SAME(suffix_table, suffix_table, text, n, b->first, n)
 SAME(left_forest, left_forest, text, n, b->first, n, b->second, n)
+SAME(right_forest, right_forest, numbers, n, b->first, n, b->second, n)
+SAME(reconstruct, reconstruct, numbers, n, b->first, n)
+SAME(reader, read_fasta, text, n, (uint8_t *)b->first, 2048)
 SAME(array_ranked, array_ranked, text, n, LYNDON_RANKED, ranks, 256, b->first, n)
 SAME(runs_ranked, runs_ranked, text, n, ranks, 256, b->first, 2 * n, b->second, 6 * n)
 SAME(factorization_ranked, factorization_ranked, text, n, LYNDON_RANKED, ranks, 256, b->first, n)
 SAME(suffix_table_ranked, suffix_table_ranked, text, n, LYNDON_RANKED, ranks, 256, b->first, n)
 SAME(left_forest_ranked, left_forest_ranked, text, n, LYNDON_RANKED, ranks, 256, b->first, n, b->second, n)
 
-/* The ranked forms in orders 0 and 1 beside the older calls without a table. */
-CALLS(array_0, lyndon_array_ranked(text, n, 0, ranks, 256, b->first, n), old_lyndon_array_u8(text, n, 0, b->first, n))
-CALLS(array_1, lyndon_array_ranked(text, n, 1, ranks, 256, b->first, n), old_lyndon_array_u8(text, n, 1, b->first, n))
-CALLS(factorization_0, lyndon_factorization_ranked(text, n, 0, ranks, 256, b->first, n), old_lyndon_factorization(text, n, b->first, n))
-CALLS(suffix_table_0, lyndon_suffix_table_ranked(text, n, 0, ranks, 256, b->first, n), old_lyndon_suffix_table(text, n, b->first, n))
-CALLS(left_forest_0, lyndon_left_forest_ranked(text, n, 0, ranks, 256, b->first, n, b->second, n),
-    old_lyndon_left_forest(text, n, b->first, n, b->second, n))
+/* The ranked forms in orders 0 and 1, beside the older ones where there are such, else beside the older calls without a table. */
+#define IN_ORDER(id, name, order, plain, ...) \
+    CALLS(id, lyndon_##name(text, n, order, ranks, 256, __VA_ARGS__), \
+        if (old_lyndon_##name) old_lyndon_##name(text, n, order, ranks, 256, __VA_ARGS__); else plain)
+IN_ORDER(array_0, array_ranked, 0, old_lyndon_array_u8(text, n, 0, b->first, n), b->first, n)
+IN_ORDER(array_1, array_ranked, 1, old_lyndon_array_u8(text, n, 1, b->first, n), b->first, n)
+IN_ORDER(factorization_0, factorization_ranked, 0, old_lyndon_factorization(text, n, b->first, n), b->first, n)
+IN_ORDER(suffix_table_0, suffix_table_ranked, 0, old_lyndon_suffix_table(text, n, b->first, n), b->first, n)
+IN_ORDER(left_forest_0, left_forest_ranked, 0, old_lyndon_left_forest(text, n, b->first, n, b->second, n), b->first, n, b->second, n)
+
+/* The inputs: texts of the families, as letters and as numbers; their Lyndon arrays; FASTA records. */
+static void texts(int f, size_t n) {
+    family_fill(f, text, n);
+    for (size_t i = 0; i < n; i++) numbers[i] = text[i];
+}
+static void arrays(int f, size_t n) {
+    family_fill(f, text, n);
+    lyndon_array_u8(text, n, LYNDON_RISING, numbers, n);
+}
+static void records(int r, size_t n) { record_fill(r, text, n); }
 
 struct call {
     const char *name;
     void (*now)(size_t), (*before)(size_t);
     int in_both;
+    void (*fill)(int, size_t);
 };
 
 static double clock_now(void) {
@@ -81,16 +102,15 @@ static double clock_now(void) {
 }
 
 static double timed(void (*call)(size_t), size_t n) {
-    size_t times = n < 1000 ? 20000 : n < 100000 ? 4 : 1;
+    size_t times = n < 1000 ? 20000 : n < 10000 ? 4000 : n < 100000 ? 4 : 1;
     double start = clock_now();
     for (size_t t = 0; t < times; t++) call(n);
-    return (clock_now() - start) / (double)times / (n < 1000 ? 1 : (double)n);
+    return (clock_now() - start) / (double)times / (n < 10000 ? 1 : (double)n);
 }
 
-static void beside(const struct call *call, int family, size_t n) {
+static void beside(const struct call *call, int input, const char *name, size_t n) {
     double least[2] = {1e30, 1e30};
-    family_fill(family, text, n);
-    for (size_t i = 0; i < n; i++) numbers[i] = text[i];
+    call->fill(input, n);
     for (int turn = 0; turn < TURNS; turn++)
         for (int c = 0; c < 2; c++) {
             double took = timed(c == 0 ? call->now : call->before, n);
@@ -99,40 +119,45 @@ static void beside(const struct call *call, int family, size_t n) {
     memset(&buffers, 0, sizeof buffers), call->now(n), kept = buffers;
     memset(&buffers, 0, sizeof buffers), call->before(n);
     if (memcmp(&kept, &buffers, sizeof kept) != 0) {
-        fprintf(stderr, "%s on %s at %zu letters: the two differ\n", call->name, family_name(family), n);
+        fprintf(stderr, "%s on %s at %zu letters: the two differ\n", call->name, name, n);
         exit(1);
     }
-    printf("%s\t%zu\t%s\t%.4f\t%.4f\n", call->name, n, family_name(family), least[0], least[1]);
+    printf("%s\t%zu\t%s\t%.4f\t%.4f\n", call->name, n, name, least[0], least[1]);
     fflush(stdout);
 }
 
 int main(void) {
     const struct call calls[] = {
-        {"array rising", now_array_rising, before_array_rising, 1},
-        {"array falling", now_array_falling, before_array_falling, 1},
-        {"array of numbers", now_numbers, before_numbers, 1},
-        {"runs", now_runs, before_runs, 1},
-        {"factorization", now_factorization, before_factorization, 1},
-        {"suffix table", now_suffix_table, before_suffix_table, 1},
-        {"left forest", now_left_forest, before_left_forest, 1},
-        {"array, order 0 of the ranked form", now_array_0, before_array_0, 1},
-        {"array, order 1 of the ranked form", now_array_1, before_array_1, 1},
-        {"factorization, order 0 of the ranked form", now_factorization_0, before_factorization_0, 1},
-        {"suffix table, order 0 of the ranked form", now_suffix_table_0, before_suffix_table_0, 1},
-        {"left forest, order 0 of the ranked form", now_left_forest_0, before_left_forest_0, 1},
-        {"array by rank", now_array_ranked, before_array_ranked, old_lyndon_array_ranked != 0},
-        {"runs by rank", now_runs_ranked, before_runs_ranked, old_lyndon_runs_ranked != 0},
-        {"factorization by rank", now_factorization_ranked, before_factorization_ranked, old_lyndon_factorization_ranked != 0},
-        {"suffix table by rank", now_suffix_table_ranked, before_suffix_table_ranked, old_lyndon_suffix_table_ranked != 0},
-        {"left forest by rank", now_left_forest_ranked, before_left_forest_ranked, old_lyndon_left_forest_ranked != 0},
+        {"array rising", now_array_rising, before_array_rising, 1, texts},
+        {"array falling", now_array_falling, before_array_falling, 1, texts},
+        {"array of numbers", now_numbers, before_numbers, 1, texts},
+        {"runs", now_runs, before_runs, 1, texts},
+        {"factorization", now_factorization, before_factorization, 1, texts},
+        {"suffix table", now_suffix_table, before_suffix_table, 1, texts},
+        {"left forest", now_left_forest, before_left_forest, 1, texts},
+        {"right forest", now_right_forest, before_right_forest, 1, arrays},
+        {"reconstruct", now_reconstruct, before_reconstruct, 1, arrays},
+        {"array, order 0 of the ranked form", now_array_0, before_array_0, 1, texts},
+        {"array, order 1 of the ranked form", now_array_1, before_array_1, 1, texts},
+        {"factorization, order 0 of the ranked form", now_factorization_0, before_factorization_0, 1, texts},
+        {"suffix table, order 0 of the ranked form", now_suffix_table_0, before_suffix_table_0, 1, texts},
+        {"left forest, order 0 of the ranked form", now_left_forest_0, before_left_forest_0, 1, texts},
+        {"array by rank", now_array_ranked, before_array_ranked, old_lyndon_array_ranked != 0, texts},
+        {"runs by rank", now_runs_ranked, before_runs_ranked, old_lyndon_runs_ranked != 0, texts},
+        {"factorization by rank", now_factorization_ranked, before_factorization_ranked, old_lyndon_factorization_ranked != 0, texts},
+        {"suffix table by rank", now_suffix_table_ranked, before_suffix_table_ranked, old_lyndon_suffix_table_ranked != 0, texts},
+        {"left forest by rank", now_left_forest_ranked, before_left_forest_ranked, old_lyndon_left_forest_ranked != 0, texts},
     };
-    const size_t sizes[] = {65536, 262144, 1048576}, short_sizes[] = {1, 16, 32, 256};
+    const size_t sizes[] = {65536, 262144, 1048576}, short_sizes[] = {1, 16, 32, 256}, record_sizes[] = {256, 2048};
     for (int a = 0; a < 256; a++) ranks[a] = (uint8_t)(a ^ 3);
     for (size_t c = 0; c < sizeof calls / sizeof *calls; c++) {
         if (!calls[c].in_both) continue;
-        for (int s = 0; s < 4; s++) beside(&calls[c], 0, short_sizes[s]);
+        for (int s = 0; s < 4; s++) beside(&calls[c], 0, family_name(0), short_sizes[s]);
         for (int s = 0; s < 3; s++)
-            for (int f = 0; f < family_count(); f++) beside(&calls[c], f, sizes[s]);
+            for (int f = 0; f < family_count(); f++) beside(&calls[c], f, family_name(f), sizes[s]);
     }
+    const struct call reader = {"reader", now_reader, before_reader, 1, records};
+    for (int s = 0; s < 2; s++)
+        for (int r = 0; r < record_count(); r++) beside(&reader, r, record_name(r), record_sizes[s]);
     return 0;
 }

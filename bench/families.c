@@ -1,4 +1,4 @@
-/* Texts that the benchmark runs on. */
+/* Texts and FASTA records that the benchmarks run on. */
 #include "families.h"
 #include <string.h>
 
@@ -108,4 +108,26 @@ int family_natural(int f) { return families[f].natural; }
 void family_fill(int f, uint8_t *text, size_t n) {
     state = 0x9e3779b97f4a7c15ull;
     families[f].fill(text, n);
+}
+
+static const struct { const char *name, *letters; size_t width; } records[] = {
+    {"one line", "ACGT", SIZE_MAX},
+    {"lines of 60 letters", "ACGT", 60},
+    {"a letter a line, CR LF", "ACGT", 1},
+    {"lines of 60, cases mixed", "ACGTacgt", 60},
+};
+
+int record_count(void) { return (int)(sizeof records / sizeof records[0]); }
+const char *record_name(int r) { return records[r].name; }
+void record_fill(int r, uint8_t *input, size_t n) {
+    size_t kinds = strlen(records[r].letters), in_line = 0;
+    state = 0x9e3779b97f4a7c15ull;
+    memcpy(input, ">m1\n", 4);
+    for (size_t i = 4; i < n; i++) {
+        if (in_line == records[r].width && i + 1 < n) {
+            if (records[r].width == 1) input[i++] = '\r';
+            input[i] = '\n', in_line = 0;
+        } else
+            input[i] = (uint8_t)records[r].letters[rnd() % kinds], in_line++;
+    }
 }

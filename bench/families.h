@@ -1,4 +1,4 @@
-/* Texts that the benchmark runs on. */
+/* Texts and FASTA records that the benchmarks run on. */
 #ifndef FAMILIES_H
 #define FAMILIES_H
 #include <stddef.h>
@@ -10,4 +10,9 @@ const char *family_name(int f);
 int family_count(void);
 /* 1 for families as they occur in nature, 0 for hard ones made by hand. */
 int family_natural(int f);
+
+/* Fills input with n bytes, a FASTA record of kind r. */
+void record_fill(int r, uint8_t *input, size_t n);
+const char *record_name(int r);
+int record_count(void);
 #endif

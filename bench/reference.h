@@ -7,14 +7,14 @@ void reference_array_u8(const uint8_t *x, size_t n, uint32_t order, uint32_t *L)
 void reference_array_u32(const uint32_t *x, size_t n, uint32_t order, uint32_t *L);
 /* The number of runs; list holds three numbers for each. */
 size_t reference_runs(const uint8_t *x, size_t n, uint32_t *work, uint32_t *list);
-/* The number of factors. */
-size_t reference_factorization(const uint8_t *x, size_t n, uint32_t *out);
+/* The number of factors, and of letter comparisons: a question for less, equal or greater counts once. */
+size_t reference_factorization(const uint8_t *x, size_t n, uint32_t *out, uint32_t *comparisons);
 void reference_suffix_table(const uint8_t *x, size_t n, uint32_t *out);
 void reference_left_forest(const uint8_t *x, size_t n, uint32_t *first, uint32_t *past);
 /* The same by a table of 256 ranks. */
 void reference_array_u8_ranked(const uint8_t *ranks, const uint8_t *x, size_t n, uint32_t order, uint32_t *L);
 size_t reference_runs_ranked(const uint8_t *ranks, const uint8_t *x, size_t n, uint32_t *work, uint32_t *list);
-size_t reference_factorization_ranked(const uint8_t *ranks, const uint8_t *x, size_t n, uint32_t *out);
+size_t reference_factorization_ranked(const uint8_t *ranks, const uint8_t *x, size_t n, uint32_t *out, uint32_t *comparisons);
 void reference_suffix_table_ranked(const uint8_t *ranks, const uint8_t *x, size_t n, uint32_t *out);
 void reference_left_forest_ranked(const uint8_t *ranks, const uint8_t *x, size_t n, uint32_t *first, uint32_t *past);
 /* 0, or the number of the refusal and its position. */

@@ -2,16 +2,18 @@
 #include "reference.h"
 #include "reference_letters.h"
 
-size_t CALL(factorization)(TABLE const uint8_t *x, size_t n, uint32_t *out) {
-    size_t count = 0, start = 0;
+size_t CALL(factorization)(TABLE const uint8_t *x, size_t n, uint32_t *out, uint32_t *comparisons) {
+    size_t count = 0, start = 0, asked = 0;
     while (start < n) {
         size_t p = 1, e = start + 1;
         while (e < n && LETTER(x, e) >= LETTER(x, e - p)) {
             if (LETTER(x, e) > LETTER(x, e - p)) p = e + 1 - start;
             e++;
         }
+        asked += (e < n ? e : n - 1) - start;
         for (; start + p <= e; start += p) out[count++] = (uint32_t)start;
     }
+    *comparisons = (uint32_t)asked;
     return count;
 }
 

@@ -17,7 +17,8 @@
 extern "C" {
 #endif
 
-/* number 0: accepted, value is the count. Else the refusal's number, and value is the position (0 where none is named):
+/* number 0: accepted, value is the count; comparisons is 0 but for lyndon_factorization and its ranked form.
+ * Else the refusal's number, value is the position (0 where none is named), and comparisons is 0:
  *   1  the text or array is empty
  *   2  it is longer than 1,048,576
  *   3  the order number is not one that the call takes: 0 and 1, in the ranked calls 0 to 2
@@ -41,6 +42,7 @@ extern "C" {
 typedef struct {
     uint32_t number;
     uint32_t value;
+    uint32_t comparisons;
 } lyndon_answer;
 
 /* Order 0, rising: letters are compared by number. Order 1, falling: the comparison of letters is turned round. Order 2, of the ranked
@@ -60,7 +62,10 @@ lyndon_answer lyndon_array_u32(const uint32_t *text, size_t n, uint32_t order, u
 lyndon_answer lyndon_runs(const uint8_t *text, size_t n, uint32_t *work, size_t work_len, uint32_t *list, size_t list_len);
 
 /* The Lyndon factorization, rising: out holds the starts of the factors, the unique Lyndon words u0 >= u1 >= .. whose row is the text.
- * Needs n places; the count is the number of factors, and only so many places are written. Refusals 1, 2, 4. */
+ * Needs n places; the count is the number of factors, and only so many places are written. The answer's comparisons is how many times
+ * Duval's scan compares two letters of this text; a question for less, equal or greater counts once. A scan stops at a smaller letter or
+ * at the end, where nothing is asked; the next begins at the first letter in no factor. In all at most 2 n - 2.
+ * Refusals 1, 2, 4. */
 lyndon_answer lyndon_factorization(const uint8_t *text, size_t n, uint32_t *out, size_t out_len);
 
 /* The Lyndon suffix table, rising: out[j] is the length of the longest Lyndon word that ends at j. Needs n places; the count is n.

@@ -2,12 +2,14 @@
 //!
 //! What the header asks of a caller holds by the types: a slice is valid for its length, and a `&mut` slice overlaps no other slice.
 
-/// The answer as C has it: number 0 and the count, or a refusal's number and the position.
+/// The answer as C has it: number 0, the count and the letter comparisons, which only the factorization counts, or a refusal's number, the
+/// position and 0.
 #[repr(C)]
 #[derive(Clone, Copy)]
 pub struct Answer {
     pub number: u32,
     pub value: u32,
+    pub comparisons: u32,
 }
 
 pub mod c {

@@ -2,7 +2,8 @@
 //!
 //! A text is a row of 1 to 1,048,576 letters, positions count from 0. Each call has two forms: one that allocates what it returns, and
 //! one, named `.._into`, that writes into buffers of the caller and returns the count. The second form asks for buffers of the lengths that
-//! its description names; places past those written keep their content, and a call that refuses changes no buffer.
+//! its description names; places past those written keep their content, and a call that refuses changes no buffer. The factorization
+//! also returns, in both forms, the number of letter comparisons of Duval's scan.
 //!
 //! The calls on texts of bytes have a further form, named `.._ranked`, that can compare letters by ranks of the caller's own: where an order
 //! is asked for, give an [`Order`] or `&`[`Ranks`].
@@ -86,6 +87,25 @@ impl Run {
     }
 }
 
+/// The Lyndon factorization of a text, and the number of letter comparisons of Duval's scan.
+#[derive(Clone, Debug, PartialEq, Eq)]
+pub struct Factorization {
+    /// The starts of the factors.
+    pub starts: Vec<u32>,
+    /// How many times Duval's scan compares two letters of the text. A question for less, equal or greater counts once; there are at most
+    /// 2n − 2.
+    pub comparisons: u32,
+}
+
+/// What [`factorization_into`] and [`factorization_ranked_into`] return.
+#[derive(Clone, Copy, Debug, PartialEq, Eq, Hash)]
+pub struct FactorCount {
+    /// The number of factors.
+    pub count: usize,
+    /// The number of letter comparisons, as in [`Factorization`].
+    pub comparisons: u32,
+}
+
 /// A forest of cuts. A position that starts a factor holds itself in both rows; at any other position `j` exactly one cut `u·v` falls
 /// before `j`: `first[j]` is the start of `u`, `past[j]` the end of `v` (one past its last position).
 #[derive(Clone, Debug, PartialEq, Eq)]
@@ -103,6 +123,10 @@ fn counted(answer: ffi::Answer) -> Result<usize, Error> {
     }
 }
 
+fn factors_counted(answer: ffi::Answer) -> Result<FactorCount, Error> {
+    counted(answer).map(|count| FactorCount { count, comparisons: answer.comparisons })
+}
+
 /// Room for `places` numbers for each of `n` letters; no more than the longest text needs, since a longer one is refused before its
 /// buffers are measured.
 fn room(n: usize, places: usize) -> Vec<u32> {
@@ -114,6 +138,16 @@ fn filled(n: usize, call: impl FnOnce(&mut [u32]) -> Result<usize, Error>) -> Re
     let count = call(&mut out)?;
     out.truncate(count);
     Ok(out)
+}
+
+fn all_factors(n: usize, call: impl FnOnce(&mut [u32]) -> Result<FactorCount, Error>) -> Result<Factorization, Error> {
+    let mut comparisons = 0;
+    let starts = filled(n, |out| {
+        let found = call(out)?;
+        comparisons = found.comparisons;
+        Ok(found.count)
+    })?;
+    Ok(Factorization { starts, comparisons })
 }
 
 fn forest(n: usize, call: impl FnOnce(&mut [u32], &mut [u32]) -> Result<usize, Error>) -> Result<Forest, Error> {
@@ -187,18 +221,21 @@ pub fn lyndon_array_u32_into(text: &[u32], order: Order, out: &mut [u32]) -> Res
     counted(ffi::array_u32(text, order.number(), out))
 }
 
-/// The starts of the factors of the Lyndon factorization: each factor is a Lyndon word and none is smaller than the next.
+/// The starts of the factors of the Lyndon factorization: each factor is a Lyndon word and none is smaller than the next. Also how many
+/// letter comparisons Duval's scan makes to find them.
 ///
 /// # Errors
 ///
 /// Refuses an empty text (refusal 1) and one of more than [`MAX_LENGTH`] letters (2).
 ///
 /// ```
-/// assert_eq!(lyndon::factorization(b"abbababaababbaba")?, [0, 3, 5, 7, 15]);
+/// let factors = lyndon::factorization(b"abbababaababbaba")?;
+/// assert_eq!(factors.starts, [0, 3, 5, 7, 15]);
+/// assert_eq!(factors.comparisons, 18);
 /// # Ok::<(), lyndon::Error>(())
 /// ```
-pub fn factorization(text: &[u8]) -> Result<Vec<u32>, Error> {
-    filled(text.len(), |out| factorization_into(text, out))
+pub fn factorization(text: &[u8]) -> Result<Factorization, Error> {
+    all_factors(text.len(), |out| factorization_into(text, out))
 }
 
 /// [`factorization`] into a buffer of at least `n` places. The count is the number of factors.
@@ -209,12 +246,12 @@ pub fn factorization(text: &[u8]) -> Result<Vec<u32>, Error> {
 ///
 /// ```
 /// let mut out = [9; 4];
-/// assert_eq!(lyndon::factorization_into(b"abab", &mut out)?, 2);
+/// assert_eq!(lyndon::factorization_into(b"abab", &mut out)?, lyndon::FactorCount { count: 2, comparisons: 3 });
 /// assert_eq!(out, [0, 2, 9, 9]);
 /// # Ok::<(), lyndon::Error>(())
 /// ```
-pub fn factorization_into(text: &[u8], out: &mut [u32]) -> Result<usize, Error> {
-    counted(ffi::factorization(text, out))
+pub fn factorization_into(text: &[u8], out: &mut [u32]) -> Result<FactorCount, Error> {
+    factors_counted(ffi::factorization(text, out))
 }
 
 /// The Lyndon suffix table: entry `j` is the length of the longest Lyndon word that ends at `j`.
@@ -392,7 +429,7 @@ pub fn lyndon_array_ranked_into<'a>(text: &[u8], order: impl Into<LetterOrder<'a
     counted(ffi::array_ranked(text, order.number(), order.table(), out))
 }
 
-/// [`factorization`] with letters compared in an [`Order`] or by [`Ranks`]. By ranks the starts are those of the row of ranks.
+/// [`factorization`] with letters compared in an [`Order`] or by [`Ranks`]. By ranks it is the factorization of the row of ranks.
 ///
 /// # Errors
 ///
@@ -401,12 +438,13 @@ pub fn lyndon_array_ranked_into<'a>(text: &[u8], order: impl Into<LetterOrder<'a
 /// ```
 /// use lyndon::{factorization_ranked, Order, Ranks};
 /// let ranks = Ranks::from_groups(&["Tt", "Gg", "Cc", "Aa"])?;
-/// assert_eq!(factorization_ranked(b"TaTAt", &ranks)?, [0, 2, 4]);
-/// assert_eq!(factorization_ranked(b"TaTAt", Order::Falling)?, [0, 1, 4]);
+/// assert_eq!(factorization_ranked(b"TaTAt", &ranks)?.starts, [0, 2, 4]);
+/// assert_eq!(factorization_ranked(b"TaTAt", Order::Falling)?.starts, [0, 1, 4]);
+/// assert_eq!(factorization_ranked(b"abbababaababbaba", Order::Rising)?.comparisons, 18);
 /// # Ok::<(), Box<dyn std::error::Error>>(())
 /// ```
-pub fn factorization_ranked<'a>(text: &[u8], order: impl Into<LetterOrder<'a>>) -> Result<Vec<u32>, Error> {
-    filled(text.len(), |out| factorization_ranked_into(text, order, out))
+pub fn factorization_ranked<'a>(text: &[u8], order: impl Into<LetterOrder<'a>>) -> Result<Factorization, Error> {
+    all_factors(text.len(), |out| factorization_ranked_into(text, order, out))
 }
 
 /// [`factorization_ranked`] into a buffer of at least `n` places. The count is the number of factors.
@@ -414,9 +452,9 @@ pub fn factorization_ranked<'a>(text: &[u8], order: impl Into<LetterOrder<'a>>) 
 /// # Errors
 ///
 /// Those of [`factorization_into`].
-pub fn factorization_ranked_into<'a>(text: &[u8], order: impl Into<LetterOrder<'a>>, out: &mut [u32]) -> Result<usize, Error> {
+pub fn factorization_ranked_into<'a>(text: &[u8], order: impl Into<LetterOrder<'a>>, out: &mut [u32]) -> Result<FactorCount, Error> {
     let order = order.into();
-    counted(ffi::factorization_ranked(text, order.number(), order.table(), out))
+    factors_counted(ffi::factorization_ranked(text, order.number(), order.table(), out))
 }
 
 /// [`suffix_table`] with letters compared in an [`Order`] or by [`Ranks`]. By ranks it is the suffix table of the row of ranks.

@@ -17,6 +17,11 @@ fn wanted(want: &Json) -> Result<usize, Error> {
     }
 }
 
+/// The second number of an accepted factor list.
+fn comparisons(want: &Json) -> u32 {
+    want.get("second").unwrap().number() as u32
+}
+
 fn numbers(case: &Json, name: &str) -> Option<Vec<u32>> {
     case.get(name).map(Json::numbers)
 }
@@ -50,7 +55,7 @@ fn calls_with_one_buffer() {
         let got = match call {
             "array8" => common::array8(&text, order, &mut out),
             "array32" => common::array32(&entries, order, &mut out),
-            "factors" => common::factors(&text, &mut out),
+            "factors" => common::factors(&text, &mut out).map(|(count, _)| count),
             "prefix" => common::suffix_table(&text, &mut out),
             _ => common::reconstruct(&entries, &mut out),
         };
@@ -113,10 +118,13 @@ fn ranked() {
         let list = |name: &str| numbers(want, name).unwrap_or_default();
         let answer = |count: usize| if want.get("no").is_some() { wanted(want) } else { Ok(count) };
         let (mut first, mut past) = (vec![0; n + 5], vec![0; n + 4]);
-        for ((call_name, call), name) in common::RANKED_CALLS.iter().zip(["array", "factors", "prefix"]) {
+        for ((call_name, call), name) in common::RANKED_CALLS.iter().zip(["array", "prefix"]) {
             let got = call(&text, order, &table, &mut first);
-            common::compare(&format!("{call_name}, {what}"), got, &[&first], answer(list(name).len()), &[Some(&list(name))]);
+            common::compare(&format!("{call_name}, {what}"), got, &[&first], answer(n), &[Some(&list(name))]);
         }
+        let got = common::factors_ranked(&text, order, &table, &mut first);
+        let factors = answer(list("factors").len()).map(|count| (count, comparisons(want)));
+        common::compare(&format!("ranked factors, {what}"), got, &[&first], factors, &[Some(&list("factors"))]);
         let got = common::left_forest_ranked(&text, order, &table, &mut first, &mut past);
         let forest = [Some(&list("first")[..]), Some(&list("past")[..])];
         common::compare(&format!("ranked left forest, {what}"), got, &[&first, &past], answer(n), &forest);
@@ -129,6 +137,25 @@ fn ranked() {
         count += 1;
     }
     assert_eq!(count, 27);
+}
+
+/// How many letters were compared (document 02, E7), without ranks and in order 0 of the ranked form.
+#[test]
+fn letters_compared() {
+    let mut count = 0;
+    for case in later("e7_factors") {
+        let (text, want) = (case.get("text").unwrap().bytes(), case.get("want").unwrap());
+        let factors = wanted(want).map(|count| (count, comparisons(want)));
+        let mut out = vec![0; text.len()];
+        let what = format!("case {count} of e7_factors");
+        let got = common::factors(&text, &mut out);
+        let starts = definitions::duval(0, &text).0;
+        common::compare(&what, got, &[&out], factors, &[Some(&starts)]);
+        let got = common::factors_ranked(&text, 0, &[], &mut out);
+        common::compare(&format!("ranked, {what}"), got, &[&out], factors, &[Some(&starts)]);
+        count += 1;
+    }
+    assert_eq!(count, 110);
 }
 
 /// The letters are capitals (document 02, E2): those of document 02's case of the same input.

@@ -87,13 +87,16 @@ fn shown(x: &[u8]) -> String {
 /// The ranked calls that take an order; `past_places` is the length of the left forest's second buffer.
 fn check_ranked(x: &[u8], order: u32, table: &[u8], places: usize, past_places: usize) {
     let what = format!("{}, order {order}, table {table:?}, {places} and {past_places} places", shown(x));
-    let accepted = [definitions::array_accepted::<u8>, definitions::factors_accepted, definitions::suffix_table_accepted];
+    let accepted = [definitions::array_accepted::<u8>, definitions::suffix_table_accepted];
     let (mut first, mut past) = (room(places), room(past_places));
     for ((name, call), accepted) in common::RANKED_CALLS.iter().zip(accepted) {
         let got = call(x, order, table, &mut first);
         let want = definitions::ranked_answer(x, order, table, &[places], accepted);
         common::compare_all(&format!("{name} of {what}"), got, &[&first], &want);
     }
+    let got = common::factors_ranked(x, order, table, &mut first);
+    let want = definitions::ranked_answer(x, order, table, &[places], definitions::factors_accepted);
+    common::compare_all(&format!("ranked factors of {what}"), got, &[&first], &want);
     let got = common::left_forest_ranked(x, order, table, &mut first, &mut past);
     let want = definitions::ranked_answer(x, order, table, &[places, past_places], definitions::left_forest_accepted);
     common::compare_all(&format!("ranked left forest of {what}"), got, &[&first, &past], &want);
@@ -177,6 +180,19 @@ fn all_short_texts_of_three_letters() {
 fn all_short_texts_of_four_far_letters() {
     for n in 1..=5 {
         all_texts(&[0, 127, 128, 255], n).for_each(|x| check_text(&x));
+    }
+}
+
+/// The largest number of comparisons for each length from 1 on, by trying all texts.
+#[test]
+fn most_comparisons() {
+    let two = [0, 1, 2, 4, 5, 7, 9, 10, 12, 14, 16, 17];
+    let three = [0, 1, 2, 4, 5, 7, 9, 11, 12, 14];
+    for (alphabet, wanted) in [(&b"ab"[..], &two[..]), (b"abc", &three)] {
+        for (n, &most) in (1..).zip(wanted) {
+            let counts = all_texts(alphabet, n).map(|x| lyndon::factorization(&x).unwrap().comparisons);
+            assert_eq!(counts.max(), Some(most), "{n} letters, {} different", alphabet.len());
+        }
     }
 }
 
@@ -594,7 +610,7 @@ fn check_long(name: &str, x: &[u8], runs: fn(&[u8]) -> Vec<u32>) {
         common::compare(&format!("array of numbers, {name}"), got, &[&out], Ok(n), &[Some(want)]);
     }
     let got = common::factors(x, &mut out);
-    common::compare(&format!("factors, {name}"), got, &[&out], Ok(lists.factors.len()), &[Some(&lists.factors)]);
+    common::compare(&format!("factors, {name}"), got, &[&out], Ok(lists.factor_count()), &[Some(&lists.factors)]);
     let got = common::suffix_table(x, &mut out);
     common::compare(&format!("suffix table, {name}"), got, &[&out], Ok(n), &[Some(&lists.suffix_table)]);
     let (mut first, mut past) = (room(n + SPARE), room(n));
@@ -612,8 +628,10 @@ fn check_long(name: &str, x: &[u8], runs: fn(&[u8]) -> Vec<u32>) {
         let what = format!("order {}, {name}", input.order);
         for ((call_name, call), want) in common::RANKED_CALLS.iter().zip(lists.ranked()) {
             let got = call(&input.text, input.order, &input.table, &mut out);
-            common::compare(&format!("{call_name}, {what}"), got, &[&out], Ok(want.len()), &[Some(want)]);
+            common::compare(&format!("{call_name}, {what}"), got, &[&out], Ok(n), &[Some(want)]);
         }
+        let got = common::factors_ranked(&input.text, input.order, &input.table, &mut out);
+        common::compare(&format!("ranked factors, {what}"), got, &[&out], Ok(lists.factor_count()), &[Some(&lists.factors)]);
         let got = common::left_forest_ranked(&input.text, input.order, &input.table, &mut first, &mut past);
         common::compare(&format!("ranked left forest, {what}"), got, &[&first, &past], Ok(n), &[Some(&lists.first), Some(&lists.past)]);
         if input.order == 2 {
@@ -651,6 +669,7 @@ fn other_methods_agree_with_the_definitions() {
             assert_eq!(faster::array(order, &x), definitions::array(order, &x));
         }
         assert_eq!(faster::factors(&x), definitions::factors(0, &x));
+        assert_eq!(faster::comparisons(&x, &faster::array(0, &x)), definitions::duval(0, &x).1);
         let (first, past) = definitions::left_forest(0, &x);
         assert_eq!(faster::suffix_table_and_left_forest(&x), (definitions::suffix_table(0, &x), first, past));
         assert_eq!(faster::runs(&x), definitions::runs(&x));
@@ -777,7 +796,8 @@ fn forms_that_allocate() {
             let letters: Vec<u32> = x.iter().map(|&l| u32::from(l)).collect();
             assert_eq!(lyndon::lyndon_array_u32(&letters, order), written);
         }
-        assert_eq!(lyndon::factorization(&x), lyndon::factorization_into(&x, &mut out).map(|count| out[..count].to_vec()));
+        let written = lyndon::factorization_into(&x, &mut out).map(|factors| (out[..factors.count].to_vec(), factors.comparisons));
+        assert_eq!(lyndon::factorization(&x).map(|factors| (factors.starts, factors.comparisons)), written);
         assert_eq!(lyndon::suffix_table(&x), lyndon::suffix_table_into(&x, &mut out).map(|count| out[..count].to_vec()));
         let written = lyndon::left_forest_into(&x, &mut out, &mut other).map(|_| (out.clone(), other.clone()));
         assert_eq!(lyndon::left_forest(&x).map(|f| (f.first, f.past)), written);
@@ -791,6 +811,52 @@ fn forms_that_allocate() {
         let mut letters = vec![0; 2048];
         let written = lyndon::read_fasta_into(&input, &mut letters).map(|count| letters[..count].to_vec());
         assert_eq!(lyndon::read_fasta(&input), written);
+    }
+}
+
+/// What a call on buffers of these lengths answers, and all of their content afterwards.
+fn outcome<const N: usize, A>(places: [usize; N], call: impl FnOnce(&mut [Vec<u32>; N]) -> A) -> (A, [Vec<u32>; N]) {
+    let mut buffers = places.map(room);
+    buffers.iter_mut().for_each(|buffer| common::fill(buffer));
+    (call(&mut buffers), buffers)
+}
+
+/// The forms with buffers give what the C interface gives, in buffers that are long enough, longer, and one place short.
+#[test]
+fn forms_with_buffers() {
+    use lyndon::Order;
+    let mut numbers = Numbers::new(26);
+    for _ in 0..600 {
+        let n = numbers.below(30);
+        let x = numbers.text(b"abc", n);
+        let letters: Vec<u32> = x.iter().map(|&l| u32::from(l)).collect();
+        let a = if n == 0 { vec![] } else { damaged(&mut numbers, n, 1) };
+        let mut near = |full: usize| numbers.pick(&[full, full, full + SPARE, full.saturating_sub(1)]);
+        let (p, q, work, list) = (near(n), near(n), near(2 * n), near(6 * n));
+        for order in [Order::Rising, Order::Falling] {
+            let want = outcome([p], |[out]| common::array8(&x, order.number(), out));
+            assert_eq!(outcome([p], |[out]| lyndon::lyndon_array_into(&x, order, out)), want);
+            assert_eq!(outcome([p], |[out]| lyndon::lyndon_array_u32_into(&letters, order, out)), want);
+        }
+        let got = outcome([p], |[out]| lyndon::factorization_into(&x, out).map(|factors| (factors.count, factors.comparisons)));
+        assert_eq!(got, outcome([p], |[out]| common::factors(&x, out)));
+        let got = outcome([p], |[out]| lyndon::suffix_table_into(&x, out));
+        assert_eq!(got, outcome([p], |[out]| common::suffix_table(&x, out)));
+        let got = outcome([p, q], |[first, past]| lyndon::left_forest_into(&x, first, past));
+        assert_eq!(got, outcome([p, q], |[first, past]| common::left_forest(&x, first, past)));
+        let got = outcome([work, list], |[work, list]| lyndon::runs_into(&x, work, list));
+        assert_eq!(got, outcome([work, list], |[work, list]| common::runs(&x, work, list)));
+        let got = outcome([p], |[text]| lyndon::reconstruct_into(&a, text));
+        assert_eq!(got, outcome([p], |[text]| common::reconstruct(&a, text)));
+        let got = outcome([p, q], |[first, past]| lyndon::right_forest_into(&a, first, past));
+        assert_eq!(got, outcome([p, q], |[first, past]| common::right_forest(&a, first, past)));
+
+        let input = valid_input(&mut numbers);
+        let places = 2047 + numbers.below(4);
+        let (mut one, mut two) = (vec![0; places], vec![0; places]);
+        common::fill(&mut two);
+        assert_eq!(common::read_fasta(&input, &mut one), lyndon::read_fasta_into(&input, &mut two));
+        assert_eq!(one, two);
     }
 }
 
@@ -809,13 +875,11 @@ fn ranked_forms_that_allocate() {
                     let mut out = room(n);
                     call(&x, order.number(), &table, &mut out).map(|count| out[..count].to_vec())
                 });
-                let forms = [
-                    lyndon::lyndon_array_ranked(&x, order),
-                    lyndon::factorization_ranked(&x, order),
-                    lyndon::suffix_table_ranked(&x, order),
-                ];
-                assert_eq!(forms, written);
+                assert_eq!([lyndon::lyndon_array_ranked(&x, order), lyndon::suffix_table_ranked(&x, order)], written);
                 let (mut first, mut past) = (room(n), room(n));
+                let written = common::factors_ranked(&x, order.number(), &table, &mut first);
+                let written = written.map(|(count, comparisons)| (first[..count].to_vec(), comparisons));
+                assert_eq!(lyndon::factorization_ranked(&x, order).map(|factors| (factors.starts, factors.comparisons)), written);
                 let written = common::left_forest_ranked(&x, order.number(), &table, &mut first, &mut past).map(|_| (first, past));
                 assert_eq!(lyndon::left_forest_ranked(&x, order).map(|f| (f.first, f.past)), written);
             }

@@ -94,7 +94,8 @@ fn check_text(x: &[u8], side: Side) {
     }
     let mut out = room(n, side);
     let got = common::factors(text.slice(), out.slice());
-    common::compare(&what, got, &[out.slice()], full(lists.factors.len()), &[Some(&lists.factors)]);
+    let factors = full(n).map(|_| lists.factor_count());
+    common::compare(&what, got, &[out.slice()], factors, &[Some(&lists.factors)]);
     let got = common::suffix_table(text.slice(), out.slice());
     common::compare(&what, got, &[out.slice()], full(n), &[Some(&lists.suffix_table)]);
     let mut second = room(n, side);
@@ -118,7 +119,7 @@ fn check_text(x: &[u8], side: Side) {
             let got = match call {
                 0 => common::array8(text.slice(), 0, cut.slice()),
                 1 => common::array32(letters.slice(), 1, cut.slice()),
-                2 => common::factors(text.slice(), cut.slice()),
+                2 => common::factors(text.slice(), cut.slice()).map(|(count, _)| count),
                 3 => common::suffix_table(text.slice(), cut.slice()),
                 4 => common::left_forest(text.slice(), cut.slice(), second.slice()),
                 _ => common::left_forest(text.slice(), second.slice(), cut.slice()),
@@ -153,8 +154,11 @@ fn check_ranked(input: &RankedInput, lists: &Lists, side: Side) {
             let (mut cut, mut out) = (room(n - missing, side), room(n, side));
             for ((name, call), want) in common::RANKED_CALLS.iter().zip(lists.ranked()) {
                 let got = call(text.slice(), order, table.slice(), cut.slice());
-                common::compare(&format!("{name}, {what}"), got, &[cut.slice()], answer(want.len(), 4), &[Some(want)]);
+                common::compare(&format!("{name}, {what}"), got, &[cut.slice()], answer(n, 4), &[Some(want)]);
             }
+            let got = common::factors_ranked(text.slice(), order, table.slice(), cut.slice());
+            let factors = answer(n, 4).map(|_| lists.factor_count());
+            common::compare(&format!("ranked factors, {what}"), got, &[cut.slice()], factors, &[Some(&lists.factors)]);
             let what = format!("ranked left forest, {what}");
             let (first, past) = (Some(&lists.first[..]), Some(&lists.past[..]));
             let got = common::left_forest_ranked(text.slice(), order, table.slice(), cut.slice(), out.slice());
@@ -180,7 +184,7 @@ fn check_ranked(input: &RankedInput, lists: &Lists, side: Side) {
 fn tables_that_no_order_looks_at() {
     let pages = Guarded::new(&[0u8; 0], Side::End);
     let forbidden = pages.content;
-    let calls = [ffi::c::lyndon_array_ranked, ffi::c::lyndon_factorization_ranked, ffi::c::lyndon_suffix_table_ranked];
+    let calls = [ffi::c::lyndon_array_ranked, ffi::c::lyndon_suffix_table_ranked];
     let longest = common::fibonacci(5000);
     for (text, order) in [&b"a"[..], b"abbababaababbaba", b"TtGgCcAa", &longest].into_iter().flat_map(|text| [(text, 0), (text, 1)]) {
         let n = text.len();
@@ -192,6 +196,12 @@ fn tables_that_no_order_looks_at() {
                 let answer = unsafe { call(text.as_ptr(), n, order, forbidden, entries, out.as_mut_ptr(), n + 1) };
                 assert_eq!((common::result(answer), &out), (wanted, &want), "{name}, order {order}, {entries} entries");
             }
+            let wanted = common::factors_ranked(text, order, &[], &mut want);
+            common::fill(&mut out);
+            let answer =
+                unsafe { ffi::c::lyndon_factorization_ranked(text.as_ptr(), n, order, forbidden, entries, out.as_mut_ptr(), n + 1) };
+            let got = common::factor_result(n, answer);
+            assert_eq!((got, &out), (wanted, &want), "factors, order {order}, {entries} entries");
             let wanted = common::left_forest_ranked(text, order, &[], &mut want, &mut want_other);
             common::fill(&mut out);
             common::fill(&mut other);

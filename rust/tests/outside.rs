@@ -15,7 +15,7 @@ fn ours(x: &[u8], what: &str) -> Vec<u32> {
     match what {
         "array-rising" => lyndon::lyndon_array(x, Order::Rising).unwrap(),
         "array-falling" => lyndon::lyndon_array(x, Order::Falling).unwrap(),
-        "factors" => lyndon::factorization(x).unwrap(),
+        "factors" => lyndon::factorization(x).unwrap().starts,
         "suffix-table" => lyndon::suffix_table(x).unwrap(),
         "right-first" => right().first,
         "right-past" => right().past,

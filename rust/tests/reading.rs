@@ -122,6 +122,26 @@ fn reading_names_what_exists() {
     assert!(names > 100, "only {names} names were found in docs/READING.md");
 }
 
+/// Every public function is named there.
+#[test]
+fn reading_names_every_public_function() {
+    let root = root();
+    let reading = read(&root.join("docs/READING.md"));
+    let named: Vec<&str> = quoted(&reading).into_iter().filter_map(|word| word.rsplit_once("::")).map(|(_, name)| name).collect();
+    let mut sources = Vec::new();
+    files(&root.join("crates"), &["rt"], &mut sources);
+    let mut count = 0;
+    for source in sources {
+        for line in read(&source).lines() {
+            let Some(declared) = line.strip_prefix("pub fn ").or(line.strip_prefix("pub extern \"C\" fn ")) else { continue };
+            let name = declared.split('(').next().unwrap();
+            assert!(named.contains(&name), "docs/READING.md does not name {name} of {}", source.display());
+            count += 1;
+        }
+    }
+    assert!(count > 40, "only {count} public functions were found");
+}
+
 /// The reading list gives each file's number of lines, and their sum.
 #[test]
 fn reading_list_counts_lines() {

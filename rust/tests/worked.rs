@@ -2,7 +2,7 @@
 mod common;
 mod definitions;
 
-use lyndon::{Error, GroupError, LetterOrder, Order, Ranks, Run};
+use lyndon::{Error, FactorCount, Factorization, GroupError, LetterOrder, Order, Ranks, Run};
 
 fn refusal<T>(result: Result<T, Error>) -> (u32, u32) {
     result.map(|_| ()).map_err(|e| (e.number, e.position)).expect_err("a refusal")
@@ -22,7 +22,42 @@ fn k1_to_k5_arrays() {
 fn k6_array_and_factors() {
     let text = b"abbababaababbaba";
     assert_eq!(lyndon::lyndon_array(text, Order::Rising).unwrap(), [3, 1, 1, 2, 1, 2, 1, 8, 5, 1, 3, 1, 1, 2, 1, 1]);
-    assert_eq!(lyndon::factorization(text).unwrap(), [0, 3, 5, 7, 15]);
+    assert_eq!(lyndon::factorization(text).unwrap(), Factorization { starts: vec![0, 3, 5, 7, 15], comparisons: 18 });
+}
+
+/// Document 02, E7, counted by hand, in the plain form and in order 0 of the ranked one.
+#[test]
+fn letters_compared() {
+    let compared = |text: &[u8]| {
+        let factors = lyndon::factorization(text).unwrap();
+        assert_eq!(lyndon::factorization_ranked(text, Order::Rising).unwrap(), factors);
+        factors.comparisons as usize
+    };
+    // One letter is compared with nothing. A scan that reaches the end has asked once for each letter behind its first.
+    assert_eq!(compared(b"a"), 0);
+    assert_eq!(compared(b"ab"), 1);
+    assert_eq!(compared(b"aba"), 2);
+    assert_eq!(compared(b"aaaa"), 3);
+    // Stops by a smaller letter directly behind the factors listed: the next scan begins with it, and does not ask for it again.
+    assert_eq!(compared(b"ba"), 1);
+    assert_eq!(compared(b"bbaa"), 3);
+    assert_eq!(compared(b"cba"), 2);
+    // Stops inside a copy of the period, after 3 questions: the next scan begins with that copy, and asks for the last letter read again.
+    assert_eq!(compared(b"abaa"), 3 + 1);
+    assert_eq!(compared(b"abaab"), 3 + 2);
+    // Of a^m b a^(m+1) the first scan asks for all letters but the first, and stops at the last; the second asks for m of them again.
+    for m in [1, 2, 9, 100, LONGEST / 2 - 1] {
+        let mut text = vec![b'a'; 2 * m + 2];
+        text[m] = b'b';
+        assert_eq!(compared(&text), 2 * m + 1 + m);
+    }
+    // Zimin's word of 2^k - 1 letters, one letter between two of its like, and a smaller letter behind it: a scan asks for all letters but the
+    // first, finds one factor of 2^(k-1), and the next scan has the same before it with k - 1.
+    for k in 0..=20 {
+        let n = 1usize << k;
+        let text: Vec<u8> = (1..n).map(|i| b'b' + i.trailing_zeros() as u8).chain([b'a']).collect();
+        assert_eq!(compared(&text), 2 * n - 2 - k);
+    }
 }
 
 #[test]
@@ -75,7 +110,8 @@ fn worked_examples_by_rank() {
         assert_eq!(array(b"ba"), [1, 1]);
         assert_eq!(array(b"abab"), [2, 1, 2, 1]);
         assert_eq!(array(b"abbababaababbaba"), [3, 1, 1, 2, 1, 2, 1, 8, 5, 1, 3, 1, 1, 2, 1, 1]);
-        assert_eq!(lyndon::factorization_ranked(b"abbababaababbaba", order).unwrap(), [0, 3, 5, 7, 15]);
+        let factors = lyndon::factorization_ranked(b"abbababaababbaba", order).unwrap();
+        assert_eq!(factors, Factorization { starts: vec![0, 3, 5, 7, 15], comparisons: 18 });
         assert_eq!(lyndon::suffix_table_ranked(b"babbababbaabb", order).unwrap(), [1, 1, 2, 3, 1, 2, 1, 2, 5, 1, 1, 3, 4]);
         let forest = lyndon::left_forest_ranked(b"aabb", order).unwrap();
         assert_eq!((&forest.first[..], &forest.past[..]), (&[0, 0, 1, 0][..], &[0, 3, 3, 4][..]));
@@ -107,22 +143,23 @@ fn a_groups_own_order() {
 fn ranked_forms_with_buffers() {
     let (text, order) = (b"bBaA", LetterOrder::Falling);
     let ranks = Ranks::from_groups(&["aA", "bB"]).unwrap();
-    let short = Err(lyndon::Error { number: 4, position: 0 });
+    let short = Error { number: 4, position: 0 };
     let (mut cut, mut out, mut other) = ([9; 3], [9; 5], [9; 5]);
-    assert_eq!(lyndon::lyndon_array_ranked_into(text, order, &mut cut), short);
-    assert_eq!(lyndon::factorization_ranked_into(text, order, &mut cut), short);
-    assert_eq!(lyndon::suffix_table_ranked_into(text, order, &mut cut), short);
-    assert_eq!(lyndon::left_forest_ranked_into(text, order, &mut out, &mut cut), short);
-    assert_eq!(lyndon::left_forest_ranked_into(text, order, &mut cut, &mut out), short);
+    assert_eq!(lyndon::lyndon_array_ranked_into(text, order, &mut cut), Err(short));
+    assert_eq!(lyndon::factorization_ranked_into(text, order, &mut cut), Err(short));
+    assert_eq!(lyndon::suffix_table_ranked_into(text, order, &mut cut), Err(short));
+    assert_eq!(lyndon::left_forest_ranked_into(text, order, &mut out, &mut cut), Err(short));
+    assert_eq!(lyndon::left_forest_ranked_into(text, order, &mut cut, &mut out), Err(short));
     let (mut work, mut list, mut cut_work, mut cut_list) = ([9; 9], [9; 25], [9; 7], [9; 23]);
-    assert_eq!(lyndon::runs_ranked_into(text, &ranks, &mut work, &mut cut_list), short);
-    assert_eq!(lyndon::runs_ranked_into(text, &ranks, &mut cut_work, &mut list), Err(lyndon::Error { number: 5, position: 0 }));
+    assert_eq!(lyndon::runs_ranked_into(text, &ranks, &mut work, &mut cut_list), Err(short));
+    assert_eq!(lyndon::runs_ranked_into(text, &ranks, &mut cut_work, &mut list), Err(Error { number: 5, position: 0 }));
     assert_eq!((cut, out, work, list, cut_work, cut_list), ([9; 3], [9; 5], [9; 9], [9; 25], [9; 7], [9; 23]));
 
     assert_eq!((lyndon::lyndon_array_ranked_into(text, order, &mut out), out), (Ok(4), [4, 1, 2, 1, 9]));
     assert_eq!((lyndon::lyndon_array_ranked_into(text, &ranks, &mut out), out), (Ok(4), [1, 1, 1, 1, 9]));
-    assert_eq!((lyndon::factorization_ranked_into(text, order, &mut out), out), (Ok(1), [0, 1, 1, 1, 9]));
-    assert_eq!((lyndon::factorization_ranked_into(text, &ranks, &mut out), out), (Ok(4), [0, 1, 2, 3, 9]));
+    let factors = |count| Ok(FactorCount { count, comparisons: 3 });
+    assert_eq!((lyndon::factorization_ranked_into(text, order, &mut out), out), (factors(1), [0, 1, 1, 1, 9]));
+    assert_eq!((lyndon::factorization_ranked_into(text, &ranks, &mut out), out), (factors(4), [0, 1, 2, 3, 9]));
     assert_eq!((lyndon::suffix_table_ranked_into(text, order, &mut out), out), (Ok(4), [1, 2, 3, 4, 9]));
     let forest = lyndon::left_forest_ranked_into(text, &ranks, &mut out, &mut other);
     assert_eq!((forest, out, other), (Ok(4), [0, 1, 2, 3, 9], [0, 1, 2, 3, 9]));
@@ -177,7 +214,7 @@ fn the_longest_text_is_accepted() {
         assert_eq!(common::array32(&letters, order, &mut out), Ok(LONGEST));
         assert!(out == ones);
     }
-    assert_eq!(common::factors(&text, &mut out), Ok(LONGEST));
+    assert_eq!(common::factors(&text, &mut out), Ok((LONGEST, LONGEST as u32 - 1)));
     assert!(out.iter().enumerate().all(|(i, &start)| i == start as usize));
     assert_eq!(common::suffix_table(&text, &mut out), Ok(LONGEST));
     assert!(out == ones);
@@ -204,7 +241,7 @@ fn one_letter_more_is_refused() {
             let got = common::array32(&letters, order, &mut out);
             common::compare("array of numbers", got, &[&out], long, &[]);
         }
-        let got = common::factors(&text, &mut out);
+        let got = common::factors(&text, &mut out).map(|(count, _)| count);
         common::compare("factors", got, &[&out], long, &[]);
         let got = common::suffix_table(&text, &mut out);
         common::compare("suffix table", got, &[&out], long, &[]);

@@ -13,7 +13,7 @@ written l before = l ++ drop (length l) before
 
 -- What a buffer holds after an outcome: l written into it where the call accepted, else what it held before.
 abbrev pub contentIn : Outcome → List ℕ → List ℕ → List ℕ
-contentIn (Accepted count) l before = written l before
+contentIn (Accepted count comparisons) l before = written l before
 contentIn (Refused reason position) l before = before
 
 -- What a buffer holds after an answer.

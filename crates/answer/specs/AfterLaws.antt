@@ -9,7 +9,7 @@ use Rattle.answer.specs.declared.Answer.{Answer}
 use Rattle.answer.specs.declared.Outcome.{Outcome}
 use Rattle.answer.specs.declared.Outcome.the-variants.{Accepted, Refused}
 use Rattle.answer.specs.declared.Reason.{Reason}
-use Rattle.answer.specs.Answers.{acceptedWith, refusedFor}
+use Rattle.answer.specs.Answers.{acceptedAfter, refusedFor}
 use Rattle.answer.specs.AfterCall.{written, contentIn, contentAfter}
 
 -- An outcome that refuses leaves a buffer as it was.
@@ -18,8 +18,8 @@ pub outcome-refused : (o : Outcome) (reason : Reason) (position : ℕ) → o ≡
 outcome-refused o reason position e l before = sym (ap (λ (q : Outcome). contentIn q l before) e)
 
 -- An outcome that accepts leaves what was written.
-pub outcome-accepted : (o : Outcome) (count : ℕ) → o ≡ Accepted count → (l before after : List ℕ) → after ≡ written l before →
-    after ≡ contentIn o l before
+pub outcome-accepted : (o : Outcome) (count : ℕ) {comparisons : ℕ} → o ≡ Accepted count comparisons → (l before after : List ℕ) →
+    after ≡ written l before → after ≡ contentIn o l before
 outcome-accepted o count e l before after h = h ∙ sym (ap (λ (q : Outcome). contentIn q l before) e)
 
 -- A refused call leaves a buffer as it was.
@@ -28,11 +28,11 @@ pub content-refused : (a : Answer) (reason : Reason) (position : ℕ) → a ≡ 
 content-refused a reason position e l before = outcome-refused (a .outcome) reason position (ap (λ (b : Answer). b .outcome) e) l before
 
 -- An accepted call leaves what it has written.
-pub content-accepted : (a : Answer) (count : ℕ) → a ≡ acceptedWith count → (l before after : List ℕ) → after ≡ written l before →
-    after ≡ contentAfter a l before
+pub content-accepted : (a : Answer) (count : ℕ) {comparisons : ℕ} → a ≡ acceptedAfter count comparisons → (l before after : List ℕ) →
+    after ≡ written l before → after ≡ contentAfter a l before
 content-accepted a count e l before after h = outcome-accepted (a .outcome) count (ap (λ (b : Answer). b .outcome) e) l before after h
 
-module _ (r : Answer) (count n : ℕ) (l before : List ℕ) (accepted : r ≡ acceptedWith count) (size : length l ≡ n) where
+module _ (r : Answer) (count n : ℕ) (l before : List ℕ) {comparisons : ℕ} (accepted : r ≡ acceptedAfter count comparisons) (size : length l ≡ n) where
   -- The first n places, for what has n numbers.
   pub written-first : take n (contentAfter r l before) ≡ l
   written-first = ap (λ (q : Answer). take n (contentAfter q l before)) accepted ∙ take-at l (drop (length l) before) n size

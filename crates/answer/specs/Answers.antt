@@ -1,6 +1,6 @@
--- Answers: how they are made, and the number and value of each.
+-- Answers: how they are made, and the number, value and comparisons of each.
 -- Assumes nothing.
-use mathlib.Core.Path.{_≡_, refl, sym, ap₂, _∙_}
+use mathlib.Core.Path.{_≡_, refl, sym, ap, ap₂, _∙_}
 use mathlib.Core.Bool.{Bool, cond}
 use mathlib.Core.List.{List, [], _∷_}
 use Prim.Native.Nat.{ℕ, zero, suc}
@@ -14,9 +14,13 @@ use Rattle.answer.specs.declared.Reason.the-variants.{EmptyText, TextToo
 use Rattle.answer.specs.declared.Reason.the-variants.{NoHeader, BadName, UnfitByte, SecondRecord, NoLetters, TooManyLetters, FileTooLong, WrongTable}
 use Rattle.answer.specs.Reasons.{numberOf}
 
--- Accepted, with its count.
+-- Accepted, with its count and the letter comparisons that were counted (document 02, E7).
+abbrev pub acceptedAfter : ℕ → ℕ → Answer
+acceptedAfter count comparisons = record { outcome = Accepted count comparisons }
+
+-- Accepted, with its count: in every call but the factor list the second number is 0 (document 02, E7).
 abbrev pub acceptedWith : ℕ → Answer
-acceptedWith count = record { outcome = Accepted count }
+acceptedWith count = acceptedAfter count 0
 
 -- Refused, with the reason and the position.
 abbrev pub refusedFor : Reason → ℕ → Answer
@@ -28,13 +32,18 @@ refusedIf fails reason position rest = cond fails (refusedFor reason position) r
 
 -- 0 for an accepted outcome, else the reason's number.
 abbrev pub numberIn : Outcome → ℕ
-numberIn (Accepted count) = 0
+numberIn (Accepted count comparisons) = 0
 numberIn (Refused reason position) = numberOf reason
 
 -- The count of an accepted outcome, else the position.
 abbrev pub valueIn : Outcome → ℕ
-valueIn (Accepted count) = count
+valueIn (Accepted count comparisons) = count
 valueIn (Refused reason position) = position
+
+-- The comparisons of an accepted outcome, else 0.
+abbrev pub comparisonsIn : Outcome → ℕ
+comparisonsIn (Accepted count comparisons) = comparisons
+comparisonsIn (Refused reason position) = 0
 
 -- The number of an answer.
 abbrev pub number : Answer → ℕ
@@ -44,19 +53,23 @@ number a = numberIn (a .outcome)
 abbrev pub value : Answer → ℕ
 value a = valueIn (a .outcome)
 
+-- The comparisons of an answer.
+abbrev pub comparisons : Answer → ℕ
+comparisons a = comparisonsIn (a .outcome)
+
 -- The reasons in the order of their numbers.
 abbrev pub reasons : List Reason
 reasons =
     EmptyText ∷ TextTooLong ∷ UnknownOrder ∷ ShortOutput ∷ ShortWork ∷ ZeroEntry ∷ LongEntry ∷ CrossingSpans ∷ NoHeader ∷ BadName ∷ UnfitByte ∷ SecondRecord ∷
     NoLetters ∷ TooManyLetters ∷ FileTooLong ∷ WrongTable ∷ []
 
--- The answer with this number and value. Numbers above 16 belong to no answer.
-abbrev pub answerWith : ℕ → ℕ → Answer
-answerWith zero v = acceptedWith v
-answerWith (suc k) v = refusedFor (getD reasons k EmptyText) v
+-- The answer with this number, value and comparisons. Numbers above 16 belong to no answer, nor do comparisons where it refuses.
+abbrev pub answerWith : ℕ → ℕ → ℕ → Answer
+answerWith zero v q = acceptedAfter v q
+answerWith (suc k) v q = refusedFor (getD reasons k EmptyText) v
 
-outcome-told : (o : Outcome) → answerWith (numberIn o) (valueIn o) ≡ record { outcome = o }
-outcome-told (Accepted count) = refl
+outcome-told : (o : Outcome) → answerWith (numberIn o) (valueIn o) (comparisonsIn o) ≡ record { outcome = o }
+outcome-told (Accepted count comparisons) = refl
 outcome-told (Refused EmptyText p) = refl
 outcome-told (Refused TextTooLong p) = refl
 outcome-told (Refused UnknownOrder p) = refl
@@ -74,12 +87,14 @@ outcome-told (Refused TooManyLetters p) = refl
 outcome-told (Refused FileTooLong p) = refl
 outcome-told (Refused WrongTable p) = refl
 
--- Number and value tell the whole answer: two answers that have both in common are equal.
-pub answer-told : (a b : Answer) → number a ≡ number b → value a ≡ value b → a ≡ b
-answer-told a b p q = sym (outcome-told (a .outcome)) ∙ ap₂ answerWith p q ∙ outcome-told (b .outcome)
+-- Number, value and comparisons tell the whole answer: two answers that have all three in common are equal.
+pub answer-told : (a b : Answer) → number a ≡ number b → value a ≡ value b → comparisons a ≡ comparisons b → a ≡ b
+answer-told a b p q r =
+    sym (outcome-told (a .outcome)) ∙ ap₂ (λ (n v : ℕ). answerWith n v (comparisons a)) p q ∙ ap (answerWith (number b) (value b)) r ∙
+    outcome-told (b .outcome)
 
 -- No outcome is both accepted and refused.
-pub accepted-apart : {count position : ℕ} {reason : Reason} → ¬ (Accepted count ≡ Refused reason position)
+pub accepted-apart : {count comparisons position : ℕ} {reason : Reason} → ¬ (Accepted count comparisons ≡ Refused reason position)
 accepted-apart e =
     let z : _≡_ {A = ℕ} 0 1 = cc in
     omega arith

@@ -1,11 +1,12 @@
-// The record that every call of the library returns: accepted with its count, or refused with a
-// reason and a position. Answers are made by `accepted` and `refused` alone, and `number` and
-// `value` say what a caller outside the library is told of one.
+// The record that every call of the library returns: accepted with its count and the letter
+// comparisons that were counted, or refused with a reason and a position. Answers are made by
+// `accepted`, `accepted_after` and `refused` alone, and `number`, `value` and `comparisons` say what
+// a caller outside the library is told of one.
 //
 // Contracts cite `specs/Reasons.antt` and `specs/Answers.antt`. Nothing is assumed.
 ghost use mathlib.Core.Path.{_≡_};
 ghost use Rattle.answer.specs.Reasons.{numberOf};
-ghost use Rattle.answer.specs.Answers.{acceptedWith, refusedFor, number, value};
+ghost use Rattle.answer.specs.Answers.{acceptedAfter, acceptedWith, refusedFor, number, value, comparisons};
 
 // Why a call refuses its input: a case for each row of document 01, "Where each check stands", and those that document 02 adds.
 pub enum Reason {
@@ -43,9 +44,10 @@ pub enum Reason {
     WrongTable,
 }
 
-// What a call makes of its input. The position is 0 where the tables of the documents name none.
+// What a call makes of its input. Letter comparisons are counted by the factor list alone, any other
+// call has 0 of them. The position is 0 where the tables of the documents name none.
 pub enum Outcome {
-    Accepted { count: u32 },
+    Accepted { count: u32, comparisons: u32 },
     Refused { reason: Reason, position: u32 },
 }
 
@@ -54,13 +56,20 @@ pub struct Answer {
     pub outcome: Outcome,
 }
 
-// The answer to an accepted input, with its count.
+// The answer to an accepted input, with its count and the letter comparisons that were counted.
+pub fn accepted_after(count: u32, comparisons: u32) -> Answer
+    ensures answer { λ r. ⌜ r ≡ acceptedAfter count comparisons ⌝ }
+{
+    Answer {
+        outcome: Outcome::Accepted { count, comparisons },
+    }
+}
+
+// The answer to an accepted input, with its count, of a call that counts no comparisons.
 pub fn accepted(count: u32) -> Answer
     ensures answer { λ r. ⌜ r ≡ acceptedWith count ⌝ }
 {
-    Answer {
-        outcome: Outcome::Accepted { count },
-    }
+    accepted_after(count, 0)
 }
 
 // The answer to a refused input, with the reason and the position.
@@ -102,7 +111,10 @@ pub fn number(a: Answer) -> u32
 {
     let outcome = a.outcome;
     match outcome {
-        Outcome::Accepted { count: _ } => 0,
+        Outcome::Accepted {
+            count: _,
+            comparisons: _,
+        } => 0,
         Outcome::Refused {
             reason,
             position: _,
@@ -116,10 +128,30 @@ pub fn value(a: Answer) -> u32
 {
     let outcome = a.outcome;
     match outcome {
-        Outcome::Accepted { count } => count,
+        Outcome::Accepted {
+            count,
+            comparisons: _,
+        } => count,
         Outcome::Refused {
             reason: _,
             position,
         } => position,
+    }
+}
+
+// The comparisons of an answer: those counted where it accepts, else 0.
+pub fn comparisons(a: Answer) -> u32
+    ensures comparisons { λ r. ⌜ r ≡ comparisons a ⌝ }
+{
+    let outcome = a.outcome;
+    match outcome {
+        Outcome::Accepted {
+            count: _,
+            comparisons,
+        } => comparisons,
+        Outcome::Refused {
+            reason: _,
+            position: _,
+        } => 0,
     }
 }

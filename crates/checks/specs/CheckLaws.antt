@@ -233,7 +233,7 @@ module _ (rest : Answer) where
 
 -- What an answer says of the checks before it.
 abbrev saidBy : Outcome → Check
-saidBy (Accepted count) = Passed
+saidBy (Accepted count comparisons) = Passed
 saidBy (Refused reason position) = Failed reason position
 
 -- A check that says what it adds says one thing only: `Adds` settles the result of a check.

@@ -1,7 +1,11 @@
 pub mod Default
 pub mod Duval
 pub mod DuvalSteps
+pub mod DuvalTurns
 pub mod DuvalFactorization
+pub mod DuvalCount
+pub mod DuvalPast
+pub mod DuvalIndexed
 pub mod Results
 pub mod Answers
 pub mod Theorems

@@ -1,9 +1,9 @@
--- Factor list and Lyndon suffix table of `TaTAt` in each order, computed.
+-- Factor list, its comparisons and Lyndon suffix table of `TaTAt` in each order, computed.
 -- Assumes nothing.
 use mathlib.Core.Path.{_≡_, refl}
 use mathlib.Core.List.{[], _∷_}
 use Rattle.letters.specs.RankExample.{table, text}
-use Rattle.factors.specs.Answers.{factorsIn, suffixTableIn}
+use Rattle.factors.specs.Answers.{factorsIn, scanComparisons, suffixTableIn}
 
 -- By rank the factors are Ta, TA and t.
 factors-ranked : factorsIn 2 table text ≡ 0 ∷ 2 ∷ 4 ∷ []
@@ -16,6 +16,15 @@ factors-rising = refl
 -- Falling: T, aTA and t.
 factors-falling : factorsIn 1 table text ≡ 0 ∷ 1 ∷ 4 ∷ []
 factors-falling = refl
+
+comparisons-ranked : scanComparisons 2 table text ≡ 4
+comparisons-ranked = refl
+
+comparisons-rising : scanComparisons 0 table text ≡ 5
+comparisons-rising = refl
+
+comparisons-falling : scanComparisons 1 table text ≡ 4
+comparisons-falling = refl
 
 table-ranked : suffixTableIn 2 table text ≡ 1 ∷ 2 ∷ 1 ∷ 2 ∷ 1 ∷ []
 table-ranked = refl

@@ -11,13 +11,15 @@ use Rattle.words.specs.Factorization.{IsFactorization}
 use Rattle.words.specs.SuffixTable.{IsSuffixTable}
 use Rattle.words.specs.Compute.Factorization.{factorizationOf}
 use Rattle.answer.specs.declared.Answer.{Answer}
-use Rattle.answer.specs.Answers.{acceptedWith}
+use Rattle.answer.specs.Answers.{acceptedWith, acceptedAfter}
 use Rattle.answer.specs.AfterCall.{contentAfter}
 use Rattle.answer.specs.Limits.{Sized, tableLength}
 use Rattle.checks.specs.Checks.{outputChecked}
 use Rattle.letters.specs.Ranks.{rankRow}
 use Rattle.letters.specs.RankLaws.{row-checked, identity-row}
-use Rattle.factors.specs.Answers.{factorizationAnswer, suffixTableAnswer, factorsIn, suffixTableIn, factorizationRankedAnswer, suffixTableRankedAnswer}
+use Rattle.factors.specs.Duval.{duval}
+use Rattle.factors.specs.Answers.{factorizationAnswer, suffixTableAnswer, factorsIn, scanComparisons, suffixTableIn}
+use Rattle.factors.specs.Answers.{factorizationRankedAnswer, suffixTableRankedAnswer}
 use Rattle.factors.specs.Theorems.{startsAfter, tableAfter, factorsRankedAfter, suffixTableRankedAfter, factorization-ranked-accepts, factorization-ranked-written}
 use Rattle.factors.specs.Theorems.{factorization-ranked-rest, suffix-table-ranked-accepts, suffix-table-ranked-written, suffix-table-ranked-rest}
 
@@ -29,7 +31,7 @@ module _ (table : List ℕ) (fits : length table ≡ tableLength) (t x out : Lis
       (factorizationRankedAnswer 2 table x (length out) ≡ factorizationRankedAnswer 0 t (rankRow table x) (length out)) ×
       (factorsRankedAfter 2 table x out ≡ factorsRankedAfter 0 t (rankRow table x) out)
   factors-by-rank =
-      let answer = row-checked table t x fits (λ n. outputChecked n (length out) (acceptedWith (length (factorsIn 2 table x)))) in
+      let answer = row-checked table t x fits (λ n. outputChecked n (length out) (acceptedAfter (length (factorsIn 2 table x)) (scanComparisons 2 table x))) in
       (answer, ap (λ (r : Answer). contentAfter r (factorsIn 2 table x) out) answer)
 
   -- The Lyndon suffix table, answer and buffer.
@@ -87,11 +89,13 @@ module _ (table x out : List ℕ) where
   suffix-table-rising = (refl, refl)
 
   -- Order 1 is the definition under falling letters: a text of 1 to 1,048,576 letters, with a buffer that is long enough, is accepted, the
-  -- count is that of the definition, the places counted hold it, and the others what they held before.
+  -- count, and of the factor list the comparisons, are those of the definition, the places counted hold it, and the others what they held
+  -- before.
   module _ (sized : Sized (length x)) (room : length x ≤ length out) where
     pub factors-falling :
         let k = length (factorizationOf decided-falling x) in
-        (factorizationRankedAnswer 1 table x (length out) ≡ acceptedWith k) × IsFactorization falling x (take k (factorsRankedAfter 1 table x out)) ×
+        (factorizationRankedAnswer 1 table x (length out) ≡ acceptedAfter k (duval decided-falling 0 x .comparisons)) ×
+        IsFactorization falling x (take k (factorsRankedAfter 1 table x out)) ×
         (drop k (factorsRankedAfter 1 table x out) ≡ drop k out)
     factors-falling = (
       factorization-ranked-accepts x sized out room 1 table (omega arith) (λ e. cc),

@@ -3,7 +3,7 @@
 -- Assumes nothing.
 use mathlib.Core.Path.{_≡_}
 use mathlib.Core.List.{List}
-use Prim.Native.Nat.{ℕ, _+_, _<_, _≤_}
+use Prim.Native.Nat.{ℕ, _<_, _≤_}
 use lib.ListN.{length, getD}
 use Rattle.words.specs.Letters.{Letters}
 use Rattle.words.specs.Decided.{Decided}
@@ -15,11 +15,14 @@ use Rattle.answer.specs.Limits.{maxLength}
 use Rattle.answer.specs.AfterCall.{written}
 use Rattle.answer.specs.Content.{Kept, From}
 use Rattle.factors.specs.declared.scan.Stretch.{Stretch}
-use Rattle.factors.specs.DuvalFactorization.{ScanStopped}
+use Rattle.factors.specs.declared.factorization.Listed.{Listed}
+use Rattle.factors.specs.Duval.{duval}
+use Rattle.factors.specs.DuvalFactorization.{ScanStopped, StoppedWhile}
 
--- The starts of the factors of x are written, and counted.
-pub record FactorsListed {O : Letters {0, 0} ℕ} (D : Decided O) (x before after : List ℕ) (count : ℕ) : Type 0 where
-  pub counted : count ≡ length (factorizationOf D x)
+-- The starts of the factors of x are written, and counted; the comparisons are those of Duval's scan.
+pub record FactorsListed {O : Letters {0, 0} ℕ} (D : Decided O) (x before after : List ℕ) (l : Listed) : Type 0 where
+  pub counted : l .count ≡ length (factorizationOf D x)
+  pub compared : l .comparisons ≡ duval D 0 x .comparisons
   pub content : after ≡ written (factorizationOf D x) before
 
 -- The first e entries of a buffer are those of the Lyndon suffix table of x; the places past the text are as before.
@@ -49,4 +52,4 @@ pub record Covered (O : Letters {0, 0} ℕ) (x out : List ℕ) (start : ℕ) (s 
   pub inside : s .end ≤ length x
   pub small : s .period ≤ maxLength
   pub entry : (t : ℕ) → t < s .end → LongestTo O x t (getD out t 0)
-  pub remains : start + s .period ≤ s .end → ScanStopped O (letters 0 x) (length x) start s
+  pub remains : StoppedWhile O (letters 0 x) (length x) start s

@@ -1,10 +1,10 @@
--- What the contracts of the calls say by the published definitions: texts of 1 to 1,048,576 letters are accepted, and what is then in the
--- buffer.
+-- What the contracts of the calls say by the published definitions: texts of 1 to 1,048,576 letters are accepted, what is then in the buffer,
+-- and how many comparisons the factor list tells at most.
 -- Assumes nothing.
-use mathlib.Core.Path.{_≡_, refl, _∙_}
+use mathlib.Core.Path.{_≡_, refl, ap, _∙_}
 use mathlib.Core.Bool.{true}
 use mathlib.Core.List.{List, []}
-use Prim.Native.Nat.{ℕ, _≤_}
+use Prim.Native.Nat.{ℕ, _+_, _*_, _<_, _≤_}
 use native.Mathlib.Omega.{arith}
 use lib.ListN.{length, take, drop}
 use Rattle.words.specs.Letters.{orderOf}
@@ -13,7 +13,7 @@ use Rattle.words.specs.Factorization.{IsFactorization}
 use Rattle.words.specs.SuffixTable.{IsSuffixTable}
 use Rattle.words.specs.Compute.Factorization.{factorizationOf, factorizationOf-holds}
 use Rattle.words.specs.Compute.SuffixTable.{suffixTableOf, suffixTableOf-holds}
-use Rattle.answer.specs.Answers.{acceptedWith}
+use Rattle.answer.specs.Answers.{acceptedWith, acceptedAfter, comparisons}
 use Rattle.answer.specs.AfterCall.{contentAfter}
 use Rattle.answer.specs.Limits.{Sized, rankedOrder, tableLength}
 use Rattle.answer.specs.AfterLaws.{written-first, written-rest}
@@ -22,7 +22,10 @@ use Rattle.checks.specs.CheckLaws.{text-passes, ranked-text-as}
 use Rattle.letters.specs.Ranks.{directionOf, rowIn}
 use Rattle.letters.specs.RankLaws.{row-in-length}
 use Rattle.factors.specs.Default.{defaultOrder, decided-default}
-use Rattle.factors.specs.Answers.{factorizationAnswer, suffixTableAnswer, factorsIn, suffixTableIn, factorizationRankedAnswer, suffixTableRankedAnswer}
+use Rattle.factors.specs.Duval.{duval}
+use Rattle.factors.specs.DuvalCount.{duval-at-most}
+use Rattle.factors.specs.Answers.{factorizationAnswer, suffixTableAnswer, factorsIn, scanComparisons, suffixTableIn}
+use Rattle.factors.specs.Answers.{factorizationRankedAnswer, suffixTableRankedAnswer}
 
 -- What `factorization` leaves in its buffer, by its contract.
 abbrev pub startsAfter : List ℕ → List ℕ → List ℕ
@@ -44,10 +47,21 @@ suffixTableRankedAfter order table x out = contentAfter (suffixTableRankedAnswer
 module _ (x : List ℕ) (sized : Sized (length x)) (out : List ℕ) (room : length x ≤ length out) where
   -- An order number of the ranked calls, and a table that has 256 entries where it is used.
   module _ (order : ℕ) (table : List ℕ) (named : order ≤ rankedOrder) (fits : usesTable order ≡ true → length table ≡ tableLength) where
-    -- `factorization_ranked` refuses no text; the count is the number of factors.
-    pub factorization-ranked-accepts : factorizationRankedAnswer order table x (length out) ≡ acceptedWith (length (factorsIn order table x))
+    -- `factorization_ranked` refuses no text; the count is the number of factors, the comparisons are those of Duval's scan.
+    pub factorization-ranked-accepts :
+        factorizationRankedAnswer order table x (length out) ≡ acceptedAfter (length (factorsIn order table x)) (scanComparisons order table x)
     factorization-ranked-accepts =
         ranked-text-as (length x) _ order (length table) named fits (length out) ∙ text-passes (length x) sized _ (length out) room
+
+    -- They are fewer than 2 × n, at most 2 × n − 2 (document 02, E7): in order 2 those of the row of ranks.
+    pub factorization-ranked-compared :
+        let q = comparisons (factorizationRankedAnswer order table x (length out)) in (q < 2 * length x) × (q + 2 ≤ 2 * length x)
+    factorization-ranked-compared =
+        let y = rowIn order table x in
+        let e = ap comparisons factorization-ranked-accepts in
+        let n = row-in-length order table x in
+        let l = duval-at-most (decided-order (directionOf order)) 0 y (omega (arith, sized .some, n)) in
+        (omega (arith, e, n, l), omega (arith, e, n, l))
 
     -- As many places as there are factors hold their starts: in order 2 those of the row of ranks.
     pub factorization-ranked-written :
@@ -90,9 +104,15 @@ module _ (x : List ℕ) (sized : Sized (length x)) (out : List ℕ) (room : leng
 
   -- The calls without an order are those of order 0, which uses no table.
 
-  -- `factorization` refuses no text; the count is the number of factors.
-  pub factorization-accepts : factorizationAnswer x (length out) ≡ acceptedWith (length (factorizationOf decided-default x))
+  -- `factorization` refuses no text; the count is the number of factors, the comparisons are those of Duval's scan.
+  pub factorization-accepts :
+      factorizationAnswer x (length out) ≡ acceptedAfter (length (factorizationOf decided-default x)) (duval decided-default 0 x .comparisons)
   factorization-accepts = factorization-ranked-accepts 0 [] (omega arith) (λ e. cc)
+
+  -- They are fewer than 2 × n, at most 2 × n − 2 (document 02, E7).
+  pub factorization-compared :
+      let q = comparisons (factorizationAnswer x (length out)) in (q < 2 * length x) × (q + 2 ≤ 2 * length x)
+  factorization-compared = factorization-ranked-compared 0 [] (omega arith) (λ e. cc)
 
   -- As many places as there are factors hold their starts.
   pub factorization-written : IsFactorization defaultOrder x (take (length (factorizationOf decided-default x)) (startsAfter x out))

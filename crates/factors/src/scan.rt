@@ -1,12 +1,13 @@
 // Duval's scan of a byte text, as `specs/Duval.antt` has it step by step.
 use letters::Comparison;
 ghost use mathlib.Core.Path.{_≡_};
-ghost use Prim.Native.Nat.{_<_, _≤_};
+ghost use Prim.Native.Nat.{_*_, _<_, _≤_};
 ghost use lib.ListN.{length};
 ghost use Rattle.words.specs.Decided.{decided-order};
 ghost use Rattle.answer.specs.Limits.{maxLength};
 ghost use Rattle.letters.specs.Ranks.{rankRow};
-ghost use Rattle.factors.specs.Duval.{scanOf, stretchAt};
+ghost use Rattle.factors.specs.Duval.{scanOf};
+ghost use Rattle.factors.specs.DuvalTurns.{stretchAt};
 
 // What a scan found: from its start up to `end` the text repeats its first `period` letters.
 pub struct Stretch {
@@ -14,11 +15,22 @@ pub struct Stretch {
     pub end: usize,
 }
 
-// The scan from `start` up to a smaller letter or the end of the text; letters are compared by their
-// ranks, in order 0 or 1.
-pub(crate) fn scan(text: &[u8], order: u32, ranks: &[u8; 256], start: usize) -> Stretch
+// The same, with the number of letter comparisons made up to then.
+pub struct Scanned {
+    pub period: usize,
+    pub end: usize,
+    pub comparisons: u32,
+}
+
+// The scan from `start` up to a smaller letter or the end of the text, where `asked` comparisons were
+// made before; letters are compared by their ranks, in order 0 or 1. Each letter behind the first is
+// asked about once, up to the one that stops the scan; at the end there is none. So comparisons are
+// added when it stops.
+pub(crate) fn scan(text: &[u8], order: u32, ranks: &[u8; 256], start: usize, asked: u32) -> Scanned
     requires { ⌜ start < length (now text) ⌝ }
-    ensures result { λ r. ⌜ r ≡ scanOf (decided-order order) 0 (rankRow (now (ranks .entry)) (now (text .entry))) start ⌝ }
+    requires { ⌜ length (now text) ≤ maxLength ⌝ }
+    requires { ⌜ asked ≤ 2 * maxLength ⌝ }
+    ensures result { λ r. ⌜ r ≡ scanOf (decided-order order) 0 (rankRow (now (ranks .entry)) (now (text .entry))) start asked ⌝ }
 {
     let mut period: usize = 1;
     let mut end = start + 1;
@@ -26,7 +38,12 @@ pub(crate) fn scan(text: &[u8], order: u32, ranks: &[u8; 256], start: usize) -> 
         let c = letters::compare_ranks(ranks, text[end], text[end - period], order);
         match c {
             Comparison::Below => {
-                return Stretch { period, end };
+                let comparisons = asked + (end - start) as u32;
+                return Scanned {
+                    period,
+                    end,
+                    comparisons,
+                };
             }
             Comparison::Same => {}
             Comparison::Above => {
@@ -35,7 +52,12 @@ pub(crate) fn scan(text: &[u8], order: u32, ranks: &[u8; 256], start: usize) -> 
         }
         end += 1;
     }
-    Stretch { period, end }
+    let comparisons = asked + (end - start - 1) as u32;
+    Scanned {
+        period,
+        end,
+        comparisons,
+    }
 }
 
 // Where the factor at `start` lies: in `s` while that holds one more copy of its period, else in a new scan.
@@ -44,14 +66,16 @@ pub(crate) fn stretch_at(
     order: u32,
     ranks: &[u8; 256],
     start: usize,
-    s: Stretch,
-) -> Stretch
+    s: Scanned,
+) -> Scanned
     requires { ⌜ start < length (now text) ⌝ }
+    requires { ⌜ length (now text) ≤ maxLength ⌝ }
     requires { ⌜ s .period ≤ maxLength ⌝ }
+    requires { ⌜ s .comparisons ≤ 2 * maxLength ⌝ }
     ensures result { λ r. ⌜ r ≡ stretchAt (decided-order order) 0 (rankRow (now (ranks .entry)) (now (text .entry))) start s ⌝ }
 {
     if s.end < start + s.period {
-        scan(text, order, ranks, start)
+        scan(text, order, ranks, start, s.comparisons)
     } else {
         s
     }

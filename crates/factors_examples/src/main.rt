@@ -1,6 +1,6 @@
 // Runs the factor list, the Lyndon suffix table and the left forest on worked examples of document 01
-// and on inputs that are refused. A line shows an answer's number and value, and then each place of a
-// buffer that held 99 everywhere.
+// and on inputs that are refused. A line shows an answer's number, value and comparisons, and then each
+// place of a buffer that held 99 everywhere.
 use answer::Answer;
 use libc::STDOUT_FILENO;
 
@@ -23,6 +23,7 @@ fn print_all(buffer: &[u32]) {
 fn print_line(a: Answer, buffer: &[u32]) {
     io::print_decimal(STDOUT_FILENO, answer::number(a) as u64);
     print(answer::value(a));
+    print(answer::comparisons(a));
     io::write_all(STDOUT_FILENO, b":");
     print_all(buffer);
     io::write_all(STDOUT_FILENO, b"\n");

@@ -57,7 +57,7 @@ module _ {x y : List ℕ} (c : CaseChanged x y) where
   case-name-end places = ap (λ (a : Answer). nameEndAfter a x) (case-answer places) ∙ go (readerAnswer y places .outcome)
     where
       go : (o : Outcome) → nameEndIn o x ≡ nameEndIn o y
-      go (Accepted count) = name-end-same parts 0
+      go (Accepted count comparisons) = name-end-same parts 0
       go (Refused reason position) = refl
 
   -- and, accepted, one name.

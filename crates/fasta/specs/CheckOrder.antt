@@ -53,9 +53,9 @@ pub record Accepts (x : List ℕ) (places c : ℕ) : Type 0 where
   pub ends : HeaderEnds x 0 header-end
   pub counted : c ≡ length (sequenceLetters x header-end)
 
--- The outcome that document 01's table gives for x.
+-- The outcome that document 01's table gives for x; the reader counts no comparisons (document 02, E7).
 abbrev pub HasOutcome : List ℕ → ℕ → Outcome → Type 0
-HasOutcome x places (Accepted c) = Accepts x places c
+HasOutcome x places (Accepted c q) = Accepts x places c × (q ≡ 0)
 HasOutcome x places (Refused r p) = Refuses x places r p
 
 -- The answer that document 01's table gives for x.

@@ -47,7 +47,7 @@ lettersAfter x letters = contentAfter (readerAnswer x (length letters)) (letters
 
 -- Where the name of the input x ends by the reader's outcome: 0 where it refuses.
 abbrev pub nameEndIn : Outcome → List ℕ → ℕ
-nameEndIn (Accepted count) x = nameEnd x 0
+nameEndIn (Accepted count comparisons) x = nameEnd x 0
 nameEndIn (Refused reason position) x = 0
 
 -- Where it ends by the reader's answer.

@@ -1,7 +1,7 @@
 -- The reader answers as document 01's table says: each row is given whenever its condition holds and no earlier check has refused,
 -- and never otherwise.
 -- Assumes nothing.
-use mathlib.Core.Path.{_≡_, ap, subst}
+use mathlib.Core.Path.{_≡_, refl, ap, subst}
 use mathlib.Core.Bool.{Bool, true, false}
 use mathlib.Core.Logic.{_↔_}
 use mathlib.Core.List.{List, map}
@@ -10,6 +10,7 @@ use native.Mathlib.Omega.{arith}
 use lib.ListN.{length, take, drop}
 use Rattle.words.specs.ExactlyOne.{ExactlyOne}
 use Rattle.answer.specs.declared.Answer.{Answer}
+use Rattle.answer.specs.declared.Outcome.the-variants.{Accepted}
 use Rattle.answer.specs.declared.Reason.{Reason}
 use Rattle.answer.specs.declared.Reason.the-variants.{NoHeader}
 use Rattle.answer.specs.Answers.{acceptedWith, refusedFor}
@@ -18,7 +19,7 @@ use Rattle.fasta_record.specs.Bytes.{letterOf, headerMark, startsWith}
 use Rattle.fasta_record.specs.Record.{linesStart, nameEnd}
 use Rattle.fasta.specs.Reader.{readerAnswer, lettersOf, lettersAfter}
 use Rattle.fasta.specs.Rows.{Stands, NameEnds, HeaderEnds, sequenceLetters, no-header, in-record}
-use Rattle.fasta.specs.CheckOrder.{Refuses, Accepts, HasAnswer}
+use Rattle.fasta.specs.CheckOrder.{Refuses, Accepts, HasOutcome, HasAnswer}
 use Rattle.fasta.specs.Laws.Accepted.{AcceptedInput, reader-accepted}
 use Rattle.fasta.specs.Laws.Stands.{StartSays, start-says}
 use Rattle.fasta.specs.Laws.HeaderLine.{header-unique, LinesBegin, lines-begin, record-letters}
@@ -34,7 +35,11 @@ module _ (x : List ℕ) (places : ℕ) where
   -- The input is accepted exactly when no row's condition holds; the count is that of the letters of the sequence lines.
   pub accepted-exactly : (c : ℕ) → readerAnswer x places ≡ acceptedWith c ↔ Accepts x places c
   accepted-exactly c =
-      (λ e. subst (HasAnswer x places) e (reader-says x places), λ h. answer-unique x places (reader-says x places) h)
+      (λ e. subst (HasAnswer x places) e (reader-says x places) .0, λ h. answer-unique x places (reader-says x places) (h, refl))
+
+  -- It then counts no comparisons.
+  pub accepted-uncompared : {c q : ℕ} → readerAnswer x places .outcome ≡ Accepted c q → q ≡ 0
+  accepted-uncompared e = subst (HasOutcome x places) e (reader-says x places) .1
 
   -- The table gives exactly one answer, the reader's.
   pub one-answer : ExactlyOne (HasAnswer x places) (readerAnswer x places)

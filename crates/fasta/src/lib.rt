@@ -66,7 +66,11 @@ fn read_record(input: &[u8], letters: &mut [u8]) -> NamedAnswer
     let ending = found.ending;
     let answer = answer_for(ending);
     let outcome = answer.outcome;
-    let Outcome::Accepted { count: _ } = outcome else {
+    let Outcome::Accepted {
+        count: _,
+        comparisons: _,
+    } = outcome
+    else {
         return NamedAnswer { answer, end: 0 };
     };
     write_letters(input, after_line(input, 0), letters);

@@ -23,14 +23,14 @@ pub record Accepting (a : List ℕ) (count : ℕ) : Type 0 where
   pub counted : count ≡ length a
   pub answered : arrayChecked a ≡ acceptedWith (length a)
 
-pub accepting : (a : List ℕ) (r : Answer) (count : ℕ) → r ≡ arrayChecked a → r .outcome ≡ Accepted count → Accepting a count
-accepting a r count e o = go (checkArray a) refl (checkArray-holds a)
+pub accepting : (a : List ℕ) (r : Answer) (count : ℕ) {comparisons : ℕ} → r ≡ arrayChecked a → r .outcome ≡ Accepted count comparisons → Accepting a count
+accepting a r count {comparisons} e o = go (checkArray a) refl (checkArray-holds a)
   where
-    told : Accepted count ≡ arrayChecked a .outcome
+    told : Accepted count comparisons ≡ arrayChecked a .outcome
     told = sym o ∙ ap (λ (q : Answer). q .outcome) e
 
     go : (v : Verdict) → checkArray a ≡ v → HasVerdict a (checkArray a) → Accepting a count
     go fits q h =
-        let z : Accepted count ≡ Accepted (length a) = told ∙ ap (λ (w : Verdict). verdictAnswer (length a) w .outcome) q in
+        let z : Accepted count comparisons ≡ Accepted (length a) 0 = told ∙ ap (λ (w : Verdict). verdictAnswer (length a) w .outcome) q in
         record { valid = subst (HasVerdict a) q h; counted = cc; answered = ap (verdictAnswer (length a)) q }
     go (fault f i) q h = absurd (accepted-apart (told ∙ ap (λ (w : Verdict). verdictAnswer (length a) w .outcome) q))

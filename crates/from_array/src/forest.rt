@@ -83,7 +83,11 @@ pub fn right_forest(array: &[u32], first: &mut [u32], past: &mut [u32]) -> Answe
         Check::Passed => {
             let verdict = valid_array::check(array);
             let outcome = verdict.outcome;
-            let Outcome::Accepted { count } = outcome else {
+            let Outcome::Accepted {
+                count,
+                comparisons: _,
+            } = outcome
+            else {
                 return verdict;
             };
             write_first(array, first);

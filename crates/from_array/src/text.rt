@@ -55,7 +55,11 @@ pub fn reconstruct(array: &[u32], text: &mut [u32]) -> Answer
         Check::Passed => {
             let verdict = valid_array::check(array);
             let outcome = verdict.outcome;
-            let Outcome::Accepted { count } = outcome else {
+            let Outcome::Accepted {
+                count,
+                comparisons: _,
+            } = outcome
+            else {
                 return verdict;
             };
             write_letters(array, text);

@@ -18,7 +18,7 @@ recordListing x p = bedLines (recordName x p) (runList (recordLetters x p))
 
 -- What is printed for the input x by the reader's outcome.
 abbrev pub listingFor : Outcome → List ℕ → List ℕ
-listingFor (Accepted count) x = recordListing x 0
+listingFor (Accepted count comparisons) x = recordListing x 0
 listingFor (Refused reason position) x = refusalLine (numberOf reason) position
 
 -- What is printed for the input x.

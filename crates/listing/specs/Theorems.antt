@@ -14,6 +14,7 @@ use Rattle.answer.specs.declared.Outcome.{Outcome}
 use Rattle.answer.specs.declared.Outcome.the-variants.{Accepted, Refused}
 use Rattle.answer.specs.declared.Reason.{Reason}
 use Rattle.answer.specs.Reasons.{numberOf}
+use Rattle.answer.specs.Answers.{acceptedWith}
 use Rattle.answer.specs.Limits.{maxLetters}
 use Rattle.array.specs.Calls.{runList}
 use Rattle.fasta_record.specs.Bytes.{letterOf}
@@ -21,7 +22,7 @@ use Rattle.fasta.specs.Rows.{NameEnds, HeaderEnds, sequenceLetters}
 use Rattle.fasta.specs.CheckOrder.{Refuses, Accepts}
 use Rattle.fasta.specs.Case.{CaseChanged}
 use Rattle.fasta.specs.Reader.{readerAnswer, lettersOf}
-use Rattle.fasta.specs.RowTheorems.{refused-exactly, accepted-exactly, letters-are, accepted-name}
+use Rattle.fasta.specs.RowTheorems.{refused-exactly, accepted-exactly, accepted-uncompared, letters-are, accepted-name}
 use Rattle.fasta.specs.CaseTheorems.{case-answer, case-letters, case-name}
 use Rattle.fasta.specs.Laws.NameBytes.{name-unique}
 use Rattle.bed.specs.Bed.{bedLines}
@@ -56,6 +57,8 @@ case-listing {x} {y} c =
     answer = case-answer c maxLetters
 
     go : (o : Outcome) → readerAnswer y maxLetters .outcome ≡ o → listingFor o x ≡ listingFor o y
-    go (Accepted n) e =
-        ap₂ (λ (name letters : List ℕ). bedLines name (runList letters)) (case-name c maxLetters n (answer ∙ ap (λ (o : Outcome). record { outcome = o }) e)) (case-letters c)
+    go (Accepted n q) e =
+        let accepted : readerAnswer y maxLetters ≡ acceptedWith n =
+        ap (λ (o : Outcome). record { outcome = o }) (e ∙ ap (Accepted n) (accepted-uncompared y maxLetters e)) in
+        ap₂ (λ (name letters : List ℕ). bedLines name (runList letters)) (case-name c maxLetters n (answer ∙ accepted)) (case-letters c)
     go (Refused r p) e = refl

@@ -69,7 +69,11 @@ fn list_repeats(
     let named = fasta::read_named(input, letters);
     let answer = named.answer;
     let outcome = answer.outcome;
-    let Outcome::Accepted { count } = outcome else {
+    let Outcome::Accepted {
+        count,
+        comparisons: _,
+    } = outcome
+    else {
         let refusal = number(answer);
         let position = value(answer);
         return write_refusal(refusal, position, out);

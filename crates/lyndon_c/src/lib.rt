@@ -16,11 +16,13 @@ ghost use Rattle.from_array.specs.Answers.{reconstructAnswer, rightForestAnswer
 ghost use Rattle.from_array.specs.Theorems.{textAfter, rightFirstAfter, rightPastAfter};
 ghost use Rattle.fasta.specs.Reader.{readerAnswer, lettersAfter};
 
-// An answer as C has it: number 0 and the count, or the refusal's number and the position.
+// An answer as C has it: number 0, the count and the letter comparisons that were counted, or the
+// refusal's number, the position and 0.
 #[repr(C)]
 pub struct LyndonAnswer {
     pub number: u32,
     pub value: u32,
+    pub comparisons: u32,
 }
 
 fn exported(a: Answer) -> LyndonAnswer
@@ -29,6 +31,7 @@ fn exported(a: Answer) -> LyndonAnswer
     LyndonAnswer {
         number: answer::number(a),
         value: answer::value(a),
+        comparisons: answer::comparisons(a),
     }
 }
 

@@ -23,7 +23,7 @@ use Rattle.words.specs.ArrayForest.{forestFirst, forestPast}
 use Rattle.words.specs.ArrayTheorems.{TextWith, passed-exactly}
 use Rattle.answer.specs.declared.Answer.{Answer}
 use Rattle.valid_array.specs.Faults.{reasonFor}
-use Rattle.answer.specs.Answers.{refusedFor, number, value}
+use Rattle.answer.specs.Answers.{refusedFor, number, value, comparisons}
 use Rattle.answer.specs.AfterCall.{contentAfter}
 use Rattle.answer.specs.AfterLaws.{content-refused}
 use Rattle.answer.specs.Limits.{Sized}
@@ -80,7 +80,7 @@ computed-holds (refused a r p) h =
     told e = e ∙ ap (verdictAnswer (length a)) (h .2)
 
     says : {answer : Answer} → answer ≡ refusedFor (reasonFor (h .1)) p → Says answer r p
-    says e = record { numbered = ap number e ∙ h .3; valued = ap value e }
+    says e = record { numbered = ap number e ∙ h .3; valued = ap value e; uncompared = ap comparisons e }
 
     left-alone : {answer : Answer} → answer ≡ refusedFor (reasonFor (h .1)) p → (l before : List ℕ) → contentAfter answer l before ≡ before
     left-alone {answer} e l before = sym (content-refused answer (reasonFor (h .1)) p e l before)

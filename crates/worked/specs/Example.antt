@@ -12,7 +12,7 @@ use Rattle.words.specs.RightForest.{IsRightForest}
 use Rattle.words.specs.LeftForest.{IsLeftForest}
 use Rattle.words.specs.ValidArray.{Valid, Fault, FirstFault, textFor}
 use Rattle.answer.specs.declared.Answer.{Answer}
-use Rattle.answer.specs.Answers.{acceptedWith, number, value}
+use Rattle.answer.specs.Answers.{acceptedWith, number, value, comparisons}
 use Rattle.from_array.specs.Answers.{reconstructAnswer, rightForestAnswer}
 use Rattle.from_array.specs.Theorems.{textAfter, rightFirstAfter, rightPastAfter}
 
@@ -26,10 +26,11 @@ pub data Example : Type 0 where
   text : (entries text : List ℕ) → Example
   refused : (entries : List ℕ) (number position : ℕ) → Example
 
--- An answer has that number and value.
+-- An answer has that number and value, and no comparisons.
 pub record Says (answer : Answer) (r p : ℕ) : Type 0 where
   pub numbered : number answer ≡ r
   pub valued : value answer ≡ p
+  pub uncompared : comparisons answer ≡ 0
 
 -- An array is refused with a number at a position: its first fault stands there, and with buffers that are long enough both calls that
 -- take an array answer with that number and position and leave their buffers as they were.

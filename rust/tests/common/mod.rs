@@ -5,25 +5,34 @@ pub mod json;
 pub mod lister;
 
 use crate::definitions::Expected;
-use lyndon::{Error, Order};
+use lyndon::Error;
+use std::fmt::Debug;
 
-/// The C interface with slices for pointers, as the crate itself has it: here any order number and any table can be asked for.
+/// The C interface with slices for pointers, as the crate itself has it: here any order number and any table can be asked for, and the
+/// answer is seen whole.
 #[path = "../../src/ffi.rs"]
 pub mod ffi;
 
+/// What a call answers that counts no comparisons.
 pub fn result(answer: ffi::Answer) -> Result<usize, Error> {
+    assert_eq!(answer.comparisons, 0, "comparisons of a call that counts none, or of a refusal");
     match answer.number {
         0 => Ok(answer.value as usize),
         number => Err(Error { number, position: answer.value }),
     }
 }
 
-fn order_of(number: u32) -> Option<Order> {
-    [Order::Rising, Order::Falling].into_iter().find(|o| o.number() == number)
+/// What the factor list of `n` letters answers: the count, and the comparisons, at most 2n − 2.
+pub fn factor_result(n: usize, answer: ffi::Answer) -> Result<(usize, u32), Error> {
+    if answer.number != 0 {
+        return Err(result(answer).unwrap_err());
+    }
+    assert!(answer.comparisons as usize + 2 <= 2 * n, "{} comparisons for {n} letters", answer.comparisons);
+    Ok((answer.value as usize, answer.comparisons))
 }
 
 /// Numbers that no call leaves by chance.
-pub trait Filler: Copy + PartialEq + std::fmt::Debug {
+pub trait Filler: Copy + PartialEq + Debug {
     fn filler(i: usize) -> Self;
 }
 
@@ -46,7 +55,13 @@ pub fn fill<T: Filler>(buffer: &mut [T]) {
 }
 
 /// Holds the answer and the whole content of every buffer to what is expected. A buffer of `written` that is absent was not stated.
-pub fn compare<T: Filler>(what: &str, got: Result<usize, Error>, buffers: &[&[T]], wanted: Result<usize, Error>, written: &[Option<&[T]>]) {
+pub fn compare<T: Filler, C: PartialEq + Debug>(
+    what: &str,
+    got: Result<C, Error>,
+    buffers: &[&[T]],
+    wanted: Result<C, Error>,
+    written: &[Option<&[T]>],
+) {
     assert_eq!(got, wanted, "answer of {what}");
     for (b, buffer) in buffers.iter().enumerate() {
         let kept = match (wanted.is_ok(), written.get(b)) {
@@ -66,7 +81,7 @@ pub fn compare<T: Filler>(what: &str, got: Result<usize, Error>, buffers: &[&[T]
     }
 }
 
-pub fn compare_all<T: Filler>(what: &str, got: Result<usize, Error>, buffers: &[&[T]], expected: &Expected<T>) {
+pub fn compare_all<T: Filler, C: Copy + PartialEq + Debug>(what: &str, got: Result<C, Error>, buffers: &[&[T]], expected: &Expected<T, C>) {
     match expected {
         Expected::Accepted { count, written } => {
             let fronts: Vec<Option<&[T]>> = written.iter().map(|w| Some(&w[..])).collect();
@@ -79,80 +94,72 @@ pub fn compare_all<T: Filler>(what: &str, got: Result<usize, Error>, buffers: &[
 }
 
 /// Makes a call, and holds its input to what it was before.
-fn kept<T: Copy + PartialEq>(input: &[T], call: impl FnOnce() -> Result<usize, Error>) -> Result<usize, Error> {
+fn kept<T: Copy + PartialEq, R>(input: &[T], call: impl FnOnce() -> R) -> R {
     let before = input.to_vec();
     let got = call();
     assert!(std::hint::black_box(input) == before, "a call has changed its input");
     got
 }
 
-/// The array by any order number: through the crate where it has a name for the number, else by the C interface itself.
+// The calls, by the C interface.
+
 pub fn array8(text: &[u8], order: u32, out: &mut [u32]) -> Result<usize, Error> {
     fill(out);
-    kept(text, || match order_of(order) {
-        Some(order) => lyndon::lyndon_array_into(text, order, out),
-        None => result(ffi::array_u8(text, order, out)),
-    })
+    kept(text, || result(ffi::array_u8(text, order, out)))
 }
 
 pub fn array32(text: &[u32], order: u32, out: &mut [u32]) -> Result<usize, Error> {
     fill(out);
-    kept(text, || match order_of(order) {
-        Some(order) => lyndon::lyndon_array_u32_into(text, order, out),
-        None => result(ffi::array_u32(text, order, out)),
-    })
+    kept(text, || result(ffi::array_u32(text, order, out)))
 }
 
-pub fn factors(text: &[u8], out: &mut [u32]) -> Result<usize, Error> {
+pub fn factors(text: &[u8], out: &mut [u32]) -> Result<(usize, u32), Error> {
     fill(out);
-    kept(text, || lyndon::factorization_into(text, out))
+    kept(text, || factor_result(text.len(), ffi::factorization(text, out)))
 }
 
 pub fn suffix_table(text: &[u8], out: &mut [u32]) -> Result<usize, Error> {
     fill(out);
-    kept(text, || lyndon::suffix_table_into(text, out))
+    kept(text, || result(ffi::suffix_table(text, out)))
 }
 
 pub fn left_forest(text: &[u8], first: &mut [u32], past: &mut [u32]) -> Result<usize, Error> {
     fill(first);
     fill(past);
-    kept(text, || lyndon::left_forest_into(text, first, past))
+    kept(text, || result(ffi::left_forest(text, first, past)))
 }
 
 pub fn right_forest(array: &[u32], first: &mut [u32], past: &mut [u32]) -> Result<usize, Error> {
     fill(first);
     fill(past);
-    kept(array, || lyndon::right_forest_into(array, first, past))
+    kept(array, || result(ffi::right_forest(array, first, past)))
 }
 
 pub fn reconstruct(array: &[u32], text: &mut [u32]) -> Result<usize, Error> {
     fill(text);
-    kept(array, || lyndon::reconstruct_into(array, text))
+    kept(array, || result(ffi::reconstruct(array, text)))
 }
 
 pub fn runs(text: &[u8], work: &mut [u32], list: &mut [u32]) -> Result<usize, Error> {
     fill(work);
     fill(list);
-    kept(text, || lyndon::runs_into(text, work, list))
+    kept(text, || result(ffi::runs(text, work, list)))
 }
 
-// The ranked calls, all by the C interface: it alone takes a table of any length.
-
-/// A ranked call that writes one buffer: text, order number, table, buffer.
+/// A ranked call that writes one buffer and counts no comparisons: text, order number, table, buffer.
 pub type RankedCall = fn(&[u8], u32, &[u8], &mut [u32]) -> Result<usize, Error>;
 
 /// Each with its name.
-pub const RANKED_CALLS: [(&str, RankedCall); 3] =
-    [("ranked array", array_ranked), ("ranked factors", factors_ranked), ("ranked suffix table", suffix_table_ranked)];
+pub const RANKED_CALLS: [(&str, RankedCall); 2] = [("ranked array", array_ranked), ("ranked suffix table", suffix_table_ranked)];
 
 pub fn array_ranked(text: &[u8], order: u32, table: &[u8], out: &mut [u32]) -> Result<usize, Error> {
     fill(out);
     kept(text, || kept(table, || result(ffi::array_ranked(text, order, table, out))))
 }
 
-pub fn factors_ranked(text: &[u8], order: u32, table: &[u8], out: &mut [u32]) -> Result<usize, Error> {
+pub fn factors_ranked(text: &[u8], order: u32, table: &[u8], out: &mut [u32]) -> Result<(usize, u32), Error> {
     fill(out);
-    kept(text, || kept(table, || result(ffi::factorization_ranked(text, order, table, out))))
+    kept(text, || kept(table, || factor_result(text.len(), ffi::factorization_ranked(text, order, table, out))))
 }
 
 pub fn suffix_table_ranked(text: &[u8], order: u32, table: &[u8], out: &mut [u32]) -> Result<usize, Error> {
@@ -174,7 +181,7 @@ pub fn runs_ranked(text: &[u8], table: &[u8], work: &mut [u32], list: &mut [u32]
 
 pub fn read_fasta(input: &[u8], letters: &mut [u8]) -> Result<usize, Error> {
     fill(letters);
-    kept(input, || lyndon::read_fasta_into(input, letters))
+    kept(input, || result(ffi::read_fasta(input, letters)))
 }
 
 // Texts

@@ -2,16 +2,19 @@
 //! Nothing here calls the library.
 #![allow(dead_code)]
 
-/// What a call answers, and what it writes into the front of each of its buffers.
+use std::cmp::Ordering;
+
+/// What a call answers, and what it writes into the front of each of its buffers. The factor list has a pair for its count: the number of
+/// factors and of comparisons.
 #[derive(Clone, Debug, PartialEq)]
-pub enum Expected<T> {
-    Accepted { count: usize, written: Vec<Vec<T>> },
+pub enum Expected<T, C = usize> {
+    Accepted { count: C, written: Vec<Vec<T>> },
     Refused { number: u32, position: u32 },
 }
 
 use Expected::{Accepted, Refused};
 
-fn refused<T>(number: u32, position: usize) -> Expected<T> {
+fn refused<T, C>(number: u32, position: usize) -> Expected<T, C> {
     Refused { number, position: position as u32 }
 }
 
@@ -20,11 +23,11 @@ pub const MAX_LENGTH: usize = 1_048_576;
 // Words
 
 /// Letters compare by number in order 0, the other way in order 1.
-pub fn letter_less<L: Ord>(order: u32, a: &L, b: &L) -> bool {
+pub fn letter_compare<L: Ord>(order: u32, a: &L, b: &L) -> Ordering {
     if order == 0 {
-        a < b
+        a.cmp(b)
     } else {
-        b < a
+        b.cmp(a)
     }
 }
 
@@ -32,7 +35,7 @@ pub fn letter_less<L: Ord>(order: u32, a: &L, b: &L) -> bool {
 pub fn word_less<L: Ord>(order: u32, u: &[L], v: &[L]) -> bool {
     for (a, b) in u.iter().zip(v) {
         if a != b {
-            return letter_less(order, a, b);
+            return letter_compare(order, a, b) == Ordering::Less;
         }
     }
     u.len() < v.len()
@@ -77,6 +80,34 @@ pub fn factors(order: u32, x: &[u8]) -> Vec<u32> {
     assert_eq!(ways[0].len(), 1, "the factorization is unique");
     let ends = &ways[0][0];
     std::iter::once(0).chain(ends[..ends.len() - 1].iter().copied()).map(|i| i as u32).collect()
+}
+
+/// Duval's scan, step by step (document 02, E7): the starts that it lists, and how many letter comparisons it makes.
+pub fn duval(order: u32, x: &[u8]) -> (Vec<u32>, u32) {
+    let n = x.len();
+    let (mut starts, mut comparisons) = (vec![], 0);
+    let mut start = 0;
+    while start < n {
+        // The letters from `start` up to `j` have period `p`. At the end of the text nothing is asked.
+        let (mut p, mut j) = (1, start + 1);
+        while j < n {
+            comparisons += 1;
+            match letter_compare(order, &x[j], &x[j - p]) {
+                Ordering::Less => break,
+                Ordering::Equal => j += 1,
+                Ordering::Greater => {
+                    p = j + 1 - start;
+                    j += 1;
+                }
+            }
+        }
+        // Every full copy of the period is listed; the next scan begins at the first letter not in one.
+        while start + p <= j {
+            starts.push(start as u32);
+            start += p;
+        }
+    }
+    (starts, comparisons)
 }
 
 /// The spans of the factors.
@@ -241,7 +272,7 @@ pub fn listing(input: &[u8], runs: impl Fn(&[u8]) -> Vec<u32>) -> Vec<u8> {
 type Faults = Vec<(bool, u32)>;
 
 /// The first check that refuses, if one does.
-fn refusal<T>(rows: &[Faults]) -> Option<Expected<T>> {
+fn refusal<T, C>(rows: &[Faults]) -> Option<Expected<T, C>> {
     rows.concat().iter().find(|fault| fault.0).map(|fault| refused(fault.1, 0))
 }
 
@@ -276,9 +307,10 @@ pub fn array_accepted<L: Ord>(order: u32, x: &[L]) -> Expected<u32> {
     Accepted { count: x.len(), written: vec![array(order, x)] }
 }
 
-pub fn factors_accepted(order: u32, x: &[u8]) -> Expected<u32> {
-    let starts = factors(order, x);
-    Accepted { count: starts.len(), written: vec![starts] }
+pub fn factors_accepted(order: u32, x: &[u8]) -> Expected<u32, (usize, u32)> {
+    let (starts, comparisons) = duval(order, x);
+    assert_eq!(starts, factors(order, x), "the scan lists the factors");
+    Accepted { count: (starts.len(), comparisons), written: vec![starts] }
 }
 
 pub fn suffix_table_accepted(order: u32, x: &[u8]) -> Expected<u32> {
@@ -302,7 +334,7 @@ pub fn array_answer<L: Ord>(x: &[L], order: u32, places: usize) -> Expected<u32>
 }
 
 /// The answer of a call in the default order, by what it is accepted with.
-pub fn rising_answer(x: &[u8], places: &[usize], accepted: fn(u32, &[u8]) -> Expected<u32>) -> Expected<u32> {
+pub fn rising_answer<C>(x: &[u8], places: &[usize], accepted: fn(u32, &[u8]) -> Expected<u32, C>) -> Expected<u32, C> {
     refusal(&[length(x.len()), outputs(x.len(), places)]).unwrap_or_else(|| accepted(0, x))
 }
 
@@ -316,7 +348,13 @@ pub fn row(table: &[u8], x: &[u8]) -> Vec<u8> {
 }
 
 /// The answer of a ranked call, by what it is accepted with: in order 2 that of order 0 for the row of ranks.
-pub fn ranked_answer(x: &[u8], order: u32, table: &[u8], places: &[usize], accepted: fn(u32, &[u8]) -> Expected<u32>) -> Expected<u32> {
+pub fn ranked_answer<C>(
+    x: &[u8],
+    order: u32,
+    table: &[u8],
+    places: &[usize],
+    accepted: fn(u32, &[u8]) -> Expected<u32, C>,
+) -> Expected<u32, C> {
     refusal(&[length(x.len()), ranked_order(order, table), outputs(x.len(), places)]).unwrap_or_else(|| {
         if order == 2 {
             accepted(0, &row(table, x))

@@ -120,6 +120,21 @@ impl Common {
     }
 }
 
+/// How many letter comparisons Duval's scan makes, by the rising array and longest common prefixes: a scan asks once for each letter behind
+/// its start, up to the one that breaks the period of the factor there, that one too. The next scan begins behind all full copies.
+pub fn comparisons(x: &[u8], array: &[u32]) -> u32 {
+    let common = Common::new(x);
+    let n = x.len();
+    let (mut start, mut count) = (0, 0);
+    while start < n {
+        let p = array[start] as usize;
+        let end = start + p + if start + p < n { common.prefix(start, start + p) } else { 0 };
+        count += end.min(n - 1) - start;
+        start += (end - start) / p * p;
+    }
+    count as u32
+}
+
 /// The suffix table and the left forest: the factors of each prefix, from those of the prefix before and one letter more, where a
 /// factor smaller than the next is joined with it.
 pub fn suffix_table_and_left_forest(x: &[u8]) -> (Vec<u32>, Vec<u32>, Vec<u32>) {
@@ -255,6 +270,7 @@ pub fn runs_by_extensions(x: &[u8]) -> Vec<u32> {
 pub struct Lists {
     pub arrays: [Vec<u32>; 2],
     pub factors: Vec<u32>,
+    pub comparisons: u32,
     pub suffix_table: Vec<u32>,
     pub first: Vec<u32>,
     pub past: Vec<u32>,
@@ -267,11 +283,17 @@ impl Lists {
             return Lists::default();
         }
         let (suffix_table, first, past) = suffix_table_and_left_forest(x);
-        Lists { arrays: [array(0, x), array(1, x)], factors: factors(x), suffix_table, first, past, runs: runs(x) }
+        let arrays = [array(0, x), array(1, x)];
+        Lists { factors: factors(x), comparisons: comparisons(x, &arrays[0]), arrays, suffix_table, first, past, runs: runs(x) }
     }
 
-    /// What those calls write that have one buffer and a ranked form.
-    pub fn ranked(&self) -> [&[u32]; 3] {
-        [&self.arrays[0], &self.factors, &self.suffix_table]
+    /// What the calls of `common::RANKED_CALLS` write.
+    pub fn ranked(&self) -> [&[u32]; 2] {
+        [&self.arrays[0], &self.suffix_table]
+    }
+
+    /// What the factor list answers.
+    pub fn factor_count(&self) -> (usize, u32) {
+        (self.factors.len(), self.comparisons)
     }
 }

@@ -43,16 +43,21 @@ static void start_text(const char *content) {
 
 static void start_sample(void) { start_text("aabaab"); }
 
-static void answered(lyndon_answer answer, uint32_t number, uint32_t value) {
+static void answered_all(lyndon_answer answer, uint32_t number, uint32_t value, uint32_t comparisons) {
     calls++;
-    if (answer.number != number || answer.value != value) {
-        fprintf(stderr, "call %u: answer %u, %u; expected %u, %u\n", calls, answer.number, answer.value, number, value);
+    if (answer.number != number || answer.value != value || answer.comparisons != comparisons) {
+        fprintf(stderr, "call %u: answer %u, %u, %u; expected %u, %u, %u\n", calls, answer.number, answer.value, answer.comparisons, number,
+            value, comparisons);
         exit(1);
     }
     if (memcmp(text, text_before, sizeof text) != 0 || memcmp(numbers, numbers_before, sizeof numbers) != 0 ||
         memcmp(ranks, ranks_before, sizeof ranks) != 0)
         fail("an input has changed");
 }
+
+/* The answer of an accepted factor list tells comparisons, any other answer none. */
+static void answered(lyndon_answer answer, uint32_t number, uint32_t value) { answered_all(answer, number, value, 0); }
+static void listed(lyndon_answer answer, uint32_t count, uint32_t comparisons) { answered_all(answer, 0, count, comparisons); }
 
 /* A buffer begins with these numbers, and has its marks behind them. */
 static void holds(const uint32_t *buffer, const uint32_t *content, size_t n) {
@@ -138,7 +143,7 @@ static void of_a_text(void) {
     answered(lyndon_array_u32(numbers, 6, LYNDON_FALLING, first, PLACES), 0, 6);
     holds(first, falling, 6);
     start_sample();
-    answered(lyndon_factorization(text, 6, first, PLACES), 0, 2);
+    listed(lyndon_factorization(text, 6, first, PLACES), 2, 5);
     holds(first, starts, 2);
     start_sample();
     answered(lyndon_suffix_table(text, 6, first, PLACES), 0, 6);
@@ -162,7 +167,7 @@ static void of_ranked_texts(void) {
         answered(lyndon_array_ranked(text, 6, ways[w].order, ways[w].table, ways[w].table_len, first, PLACES), 0, 6);
         holds(first, array, 6);
         start_text(ways[w].content);
-        answered(lyndon_factorization_ranked(text, 6, ways[w].order, ways[w].table, ways[w].table_len, first, PLACES), 0, 4);
+        listed(lyndon_factorization_ranked(text, 6, ways[w].order, ways[w].table, ways[w].table_len, first, PLACES), 4, 5);
         holds(first, starts, 4);
         start_text(ways[w].content);
         answered(lyndon_suffix_table_ranked(text, 6, ways[w].order, ways[w].table, ways[w].table_len, first, PLACES), 0, 6);
@@ -176,6 +181,21 @@ static void of_ranked_texts(void) {
     answered(lyndon_runs_ranked(text, 6, ranks, 256, first, PLACES, second, PLACES), 0, 3);
     holds(first, both, 12);
     holds(second, runs, 9);
+}
+
+/* The factors of K6 of the specification, found with 18 comparisons: without ranks, and in each order. By rank, as in falling order, b
+ * comes before a. */
+static void factors_and_comparisons(void) {
+    static const char content[] = "abbababaababbaba", exchanged[] = "baabababbabaabab";
+    static const uint32_t starts[] = {0, 3, 5, 7, 15};
+    start_text(content);
+    listed(lyndon_factorization(text, 16, first, PLACES), 5, 18);
+    holds(first, starts, 5);
+    for (uint32_t order = 0; order < 3; order++) {
+        start_text(order == LYNDON_RISING ? content : exchanged);
+        listed(lyndon_factorization_ranked(text, 16, order, ranks, 256, first, PLACES), 5, 18);
+        holds(first, starts, 5);
+    }
 }
 
 /* K8, K9, K10 and K11 of the specification. */
@@ -216,6 +236,7 @@ int main(void) {
     into_nothing();
     of_a_text();
     of_ranked_texts();
+    factors_and_comparisons();
     forests_and_texts();
     of_a_record();
     printf("%u calls\n", calls);

@@ -33,12 +33,12 @@ pub record AcceptedInput (x : List ℕ) (count : ℕ) : Type 0 where
 
 -- An ending that is accepted is the input's end, after some letters.
 finished-accepted :
-    (e : Ending) (count : ℕ) → answerFor e .outcome ≡ Accepted count → (q : ℕ) × (e ≡ Finished count q) × (0 < count)
+    (e : Ending) (count : ℕ) {comparisons : ℕ} → answerFor e .outcome ≡ Accepted count comparisons → (q : ℕ) × (e ≡ Finished count q) × (0 < count)
 finished-accepted (RefusedAt r p) count h = absurd (accepted-apart (sym h))
 finished-accepted (NextRecord n p) count h = absurd (accepted-apart (sym h))
-finished-accepted (Finished n p) count h = go (eqb n 0) refl h
+finished-accepted (Finished n p) count {comparisons} h = go (eqb n 0) refl h
   where
-    go : (t : Bool) → eqb n 0 ≡ t → refusedIf t NoLetters p (acceptedWith n) .outcome ≡ Accepted count
+    go : (t : Bool) → eqb n 0 ≡ t → refusedIf t NoLetters p (acceptedWith n) .outcome ≡ Accepted count comparisons
         → (q : ℕ) × (Finished n p ≡ Finished count q) × (0 < count)
     go true l e = absurd (accepted-apart (sym e))
     go false l e =
@@ -56,7 +56,7 @@ whole-most {x} w =
     omega (arith, w .counted)
 
 -- What is known of an input whose record is accepted.
-pub accepted-input : (x : List ℕ) (count : ℕ) → answerFor (recordEnding x 0) .outcome ≡ Accepted count → AcceptedInput x count
+pub accepted-input : (x : List ℕ) (count : ℕ) {comparisons : ℕ} → answerFor (recordEnding x 0) .outcome ≡ Accepted count comparisons → AcceptedInput x count
 accepted-input x count h =
     let f : (q : ℕ) × (recordEnding x 0 ≡ Finished count q) × (0 < count) = finished-accepted (recordEnding x 0) count h in
     let w : ReadToEnd x 0 (nameEnd x 0) count (f .0) = subst (RecordSays x 0 (nameEnd x 0)) (f .1) (record-says x 0 (omega arith)) in
@@ -71,12 +71,13 @@ accepted-input x count h =
     }
 
 -- What is known of an input that the reader accepts.
-pub reader-accepted : (x : List ℕ) (places count : ℕ) → readerAnswer x places .outcome ≡ Accepted count → AcceptedInput x count
-reader-accepted x places count h = go (ltb places maxLetters) (ltb maxInput (length x)) h
+pub reader-accepted : (x : List ℕ) (places count : ℕ) {comparisons : ℕ} → readerAnswer x places .outcome ≡ Accepted count comparisons →
+    AcceptedInput x count
+reader-accepted x places count {comparisons} h = go (ltb places maxLetters) (ltb maxInput (length x)) h
   where
     go : (s t : Bool)
         → refusedIf s ShortOutput 0 (refusedIf t FileTooLong maxInput (answerFor (recordEnding x 0))) .outcome
-        ≡ Accepted count
+        ≡ Accepted count comparisons
         → AcceptedInput x count
     go true t e = absurd (accepted-apart (sym e))
     go false true e = absurd (accepted-apart (sym e))

@@ -75,7 +75,7 @@ module _ (x : List ℕ) (places : ℕ) where
         go true h =
             let e : p ≡ length x = w .place in
             rw e (record-first (none-first w (eqb-true c 0 h)))
-        go false h = accepts w (eqb-false c 0 h)
+        go false h = (accepts w (eqb-false c 0 h), refl)
 
   -- The reader's answer is that of the rows.
   pub reader-says : HasAnswer x places (readerAnswer x places)

@@ -82,11 +82,12 @@ module _ (x : List ℕ) (places : ℕ) where
       ap₂ Refused (same-reason m (subst (λ q. Placed x r q) n (placed (f .holds))) (placed (g .holds))) n
 
   outcome-unique : (o o′ : Outcome) → HasOutcome x places o → HasOutcome x places o′ → o ≡ o′
-  outcome-unique (Accepted c) (Accepted c′) h k =
-      ap Accepted
-      (h .counted ∙ ap (λ (e : ℕ). length (sequenceLetters x e)) (header-unique (h .ends) (k .ends)) ∙ sym (k .counted))
-  outcome-unique (Accepted c) (Refused r p) h k = absurd (h .no-row r p (k .holds))
-  outcome-unique (Refused r p) (Accepted c) h k = absurd (k .no-row r p (h .holds))
+  outcome-unique (Accepted c q) (Accepted c′ q′) (h, e) (k, f) =
+      ap₂ Accepted
+      (h .counted ∙ ap (λ (i : ℕ). length (sequenceLetters x i)) (header-unique (h .ends) (k .ends)) ∙ sym (k .counted))
+      (e ∙ sym f)
+  outcome-unique (Accepted c q) (Refused r p) h k = absurd (h .0 .no-row r p (k .holds))
+  outcome-unique (Refused r p) (Accepted c q) h k = absurd (k .0 .no-row r p (h .holds))
   outcome-unique (Refused r p) (Refused r′ p′) h k = refuses-unique h k
 
   pub answer-unique : {a b : Answer} → HasAnswer x places a → HasAnswer x places b → a ≡ b

@@ -38,7 +38,7 @@ answered c = ap (λ a. a .outcome) (c .read-named .ensures .0) ∙ ap (λ (n : �
 
 module _ (c : tie.After-outcome) where
   -- The input is accepted.
-  accepted : readerAnswer (entry (reading c) .args .input .now) maxLetters .outcome ≡ Accepted (c .outcome .given .0 .0)
+  accepted : readerAnswer (entry (reading c) .args .input .now) maxLetters .outcome ≡ Accepted (c .outcome .given .0 .0) (c .outcome .given .0 .1 .0)
   accepted = sym (answered (reading c)) ∙ c .outcome .given .1
 
   known : AcceptedInput (entry (reading c) .args .input .now) (c .outcome .given .0 .0)

@@ -40,7 +40,7 @@ module _ (x list before : List ℕ) (count : ℕ) (counted : count ≡ length (r
       omega (arith, counted, ap length held, length-append (runNumbers x) (drop (length (runNumbers x)) before), numbers-length (runList x))
 
 -- What is printed for an accepted input.
-pub listing-accepted : (x : List ℕ) (count : ℕ) → readerAnswer x maxLetters .outcome ≡ Accepted count → listingOf x ≡ recordListing x 0
+pub listing-accepted : (x : List ℕ) (count : ℕ) {comparisons : ℕ} → readerAnswer x maxLetters .outcome ≡ Accepted count comparisons → listingOf x ≡ recordListing x 0
 listing-accepted x count e = ap (λ (o : Outcome). listingFor o x) e
 
 -- What is printed for a refused input.

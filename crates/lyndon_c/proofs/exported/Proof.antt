@@ -1,4 +1,4 @@
--- `lyndon_c::exported` meets its contract: number and value are those of the answer.
+-- `lyndon_c::exported` meets its contract: number, value and comparisons are those of the answer.
 -- Assumes nothing.
 use borrow.Author.Needs.{needs}
 use Rattle.lyndon_c.proofs.exported.Statement.{statement}
@@ -10,8 +10,11 @@ number-requires c κs = search needs
 value-requires : tie.Need-value-requires
 value-requires c κs = search needs
 
+comparisons-requires : tie.Need-comparisons-requires
+comparisons-requires c κs = search needs
+
 returns : tie.Need-returns
-returns c = simp (c .before .number .ensures, c .value .ensures)
+returns c = simp (c .before .before .number .ensures, c .before .value .ensures, c .comparisons .ensures)
 
 pub exported-spec : {M : Type 1} → statement M
-exported-spec = tie.close (tie.spec number-requires value-requires returns)
+exported-spec = tie.close (tie.spec number-requires value-requires comparisons-requires returns)

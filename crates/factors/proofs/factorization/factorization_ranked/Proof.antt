@@ -1,11 +1,11 @@
 -- `factors::factorization::factorization_ranked` meets its contract: the checks give the answer, and the work is done where they pass.
 -- Assumes nothing.
-use mathlib.Core.Path.{_≡_, sym, ap, _∙_}
+use mathlib.Core.Path.{_≡_, sym, ap₂, _∙_}
 use mathlib.Core.Bool.{true}
 use lib.ListN.{length}
 use borrow.Author.Needs.{needs}
 use Rattle.words.specs.Decided.{decided-order}
-use Rattle.answer.specs.Answers.{acceptedWith}
+use Rattle.answer.specs.Answers.{acceptedAfter}
 use Rattle.answer.specs.Limits.{tableLength}
 use Rattle.answer.specs.AfterLaws.{content-refused, content-accepted}
 use Rattle.answer.specs.Content.{TextRoom}
@@ -75,8 +75,8 @@ direction-requires c κs = search needs
 list-in-requires : tie.Need-list-in-requires
 list-in-requires c κs = known (c .before .before .before .before .before .before) .0
 
-accepted-requires : tie.Need-accepted-requires
-accepted-requires c κs = search needs
+accepted-after-requires : tie.Need-accepted-after-requires
+accepted-after-requires c κs = search needs
 
 returns : tie.Need-returns
 returns c =
@@ -93,8 +93,8 @@ returns-2 c =
     let done = c .before .before .before in
     let passed = told done in
     let checked = passed .before .before .ranked-text .ensures in (
-      c .accepted .ensures ∙ ap acceptedWith (listed done .counted) ∙ sym (passing checked _ (passed .enum-told .given .1)),
-      content-accepted _ _ (c .accepted .ensures) _ _ _ (listed done .content),
+      c .accepted-after .ensures ∙ ap₂ acceptedAfter (listed done .counted) (listed done .compared) ∙ sym (passing checked _ (passed .enum-told .given .1)),
+      content-accepted _ _ (c .accepted-after .ensures) _ _ _ (listed done .content),
     )
 
 pub factorization-ranked-spec : {M : Type 1} → statement M
@@ -109,7 +109,7 @@ factorization-ranked-spec =
     rank-table-requires
     direction-requires
     list-in-requires
-    accepted-requires
+    accepted-after-requires
     returns
     same-length
     returns-2)

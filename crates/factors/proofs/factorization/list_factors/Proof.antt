@@ -8,10 +8,9 @@ use Rattle.words.specs.Decided.{decided-order}
 use Rattle.letters.specs.Ranks.{rankRow}
 use Rattle.letters.specs.RankLaws.{row-length}
 use Rattle.answer.specs.Content.{TextRoom}
-use Rattle.answer.specs.ContentLaws.{written-size}
-use Rattle.factors.specs.DuvalSteps.{Bounded}
-use Rattle.answer.specs.ContentLaws.{same-room}
-use Rattle.factors.proofs.Listing.{Listing, listing-start, listing-next, listing-step, listing-end}
+use Rattle.answer.specs.ContentLaws.{same-room, written-size}
+use Rattle.factors.specs.DuvalSteps.{stretchOf, Bounded}
+use Rattle.factors.proofs.Listing.{Listing, listing-start, listing-counts, listing-next, listing-step, listing-end}
 use Rattle.factors.proofs.factorization.list_factors.Statement.{statement}
 use Rattle.factors.proofs.factorization.list_factors.Tie as tie
 
@@ -40,14 +39,18 @@ inside : (c : tie.After-stretch-at Inv-loop μ-loop) →
 inside c = omega (arith, c .before .loop-test .taken, head c .loop .inv .0)
 
 found : (c : tie.After-stretch-at Inv-loop μ-loop) →
-    let args = begin (head c) .args in Bounded (length (rankRow (args .ranks .now) (args .text .now))) (head c .loop .start) (c .stretch-at .result)
+    let args = begin (head c) .args in Bounded (length (rankRow (args .ranks .now) (args .text .now))) (head c .loop .start) (stretchOf (c .stretch-at .result))
 found c = listing-next _ _ _ _ _ _ _ (room (head c)) (head c .loop .inv .1) (inside c) _ (c .stretch-at .ensures)
 
 loop-holds : tie.Need-loop-holds Inv-loop μ-loop
 loop-holds c = let args = c .before .before .args in (row-length (args .ranks .now) (args .text .now), listing-start _ _ _)
 
 stretch-at-requires : tie.Need-stretch-at-requires Inv-loop μ-loop
-stretch-at-requires c κs = (c .loop-test .taken, c .before .loop .inv .1 .small)
+stretch-at-requires c κs =
+    let now = c .before in
+    let inv = now .loop .inv in
+    let compared = listing-counts _ _ _ _ _ _ _ (room now) (inv .1) (omega (arith, c .loop-test .taken, inv .0)) in
+    (c .loop-test .taken, (begin now .pre .short, (inv .1 .small, compared)))
 
 cast-out : tie.Need-cast-out Inv-loop μ-loop
 cast-out c = omega arith
@@ -73,8 +76,8 @@ loop-again c =
     let now = head asked in
     (now .loop .inv .0, listing-step _ _ _ _ _ _ _ (room now) (now .loop .inv .1) (inside asked) _ (asked .stretch-at .ensures))
 
-cast-result : tie.Need-cast-result Inv-loop μ-loop
-cast-result c = omega (arith, c .before .loop .inv .1 .behind, c .before .loop .inv .1 .inside)
+cast-factors : tie.Need-cast-factors Inv-loop μ-loop
+cast-factors c = omega (arith, c .before .loop .inv .1 .behind, c .before .loop .inv .1 .inside)
 
 same-length : tie.Need-same-length Inv-loop μ-loop
 same-length c = written-size (c .before .loop .inv .1 .content)
@@ -99,6 +102,6 @@ list-factors-spec =
     add-start
     loop-less
     loop-again
-    cast-result
+    cast-factors
     same-length
     returns)

@@ -4,14 +4,15 @@ use mathlib.Core.Path.{_≡_, sym, subst}
 use mathlib.Core.List.{List}
 use Prim.Native.Nat.{ℕ}
 use Rattle.words.specs.Decided.{decided-order}
+use Rattle.factors.specs.declared.factorization.Listed.{Listed}
 use Rattle.factors.specs.Results.{FactorsListed}
 use borrow.Author.Needs.{needs}
 use Rattle.factors.proofs.factorization.list_in.Statement.{statement}
 use Rattle.factors.proofs.factorization.list_in.Tie as tie
 
-in-order-0 : (order : ℕ) (x before after : List ℕ) (count : ℕ) → order ≡ 0 → FactorsListed (decided-order 0) x before after count →
-    FactorsListed (decided-order order) x before after count
-in-order-0 order x before after count e w = subst (λ (k : ℕ). FactorsListed (decided-order k) x before after count) (sym e) w
+in-order-0 : (order : ℕ) (x before after : List ℕ) (l : Listed) → order ≡ 0 → FactorsListed (decided-order 0) x before after l →
+    FactorsListed (decided-order order) x before after l
+in-order-0 order x before after l e w = subst (λ (k : ℕ). FactorsListed (decided-order k) x before after l) (sym e) w
 
 list-factors-requires : tie.Need-list-factors-requires
 list-factors-requires c κs = search needs

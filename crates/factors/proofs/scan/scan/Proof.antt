@@ -18,11 +18,11 @@ use Rattle.factors.proofs.scan.scan.Tie as tie
 
 -- The row of ranks is as long as the text; the rest is said of the row.
 abbrev Inv-loop : tie.InvT-loop
-Inv-loop text order ranks start period₀ end₀ period end =
-    (length (rankRow ranks text) ≡ length text) × Scanning (decided-order order) (rankRow ranks text) start period end
+Inv-loop text order ranks start asked period₀ end₀ period end =
+    (length (rankRow ranks text) ≡ length text) × Scanning (decided-order order) (rankRow ranks text) start asked period end
 
 abbrev μ-loop : tie.MeasureT-loop
-μ-loop text order ranks start period₀ end₀ period end = length text - end
+μ-loop text order ranks start asked period₀ end₀ period end = length text - end
 
 -- Where the function starts, and the loop's head, seen from behind the question.
 abbrev begin : tie.At-loop Inv-loop μ-loop → tie.Start Inv-loop μ-loop
@@ -53,7 +53,7 @@ loop-holds : tie.Need-loop-holds Inv-loop μ-loop
 loop-holds c =
     let begun = c .before in
     let same = row-length (begun .args .ranks .now) (begun .args .text .now) in
-    (same, scanning-start _ _ _ (omega (arith, begun .pre, same)))
+    (same, scanning-start _ _ _ _ (omega (arith, begun .pre, same)))
 
 shared-slice-read-compare-ranks : tie.Need-shared-slice-read-compare-ranks Inv-loop μ-loop
 shared-slice-read-compare-ranks c = omega arith
@@ -70,10 +70,19 @@ compare-ranks-requires c κs = search needs
 enum-told : tie.Need-enum-told Inv-loop μ-loop
 enum-told c = search needs
 
+sub-comparisons : tie.Need-sub-comparisons Inv-loop μ-loop
+sub-comparisons c = omega (arith, head (c .before .before) .loop .inv .1 .whole)
+
+cast-comparisons : tie.Need-cast-comparisons Inv-loop μ-loop
+cast-comparisons c = omega (arith, inside (c .before .before), head (c .before .before) .loop .inv .0, begin (head (c .before .before)) .pre)
+
+add-comparisons : tie.Need-add-comparisons Inv-loop μ-loop
+add-comparisons c = omega (arith, inside (c .before .before), head (c .before .before) .loop .inv .0, begin (head (c .before .before)) .pre)
+
 returns : tie.Need-returns Inv-loop μ-loop
 returns c =
     let asked = c .before .before in
-    scanning-below _ _ _ _ _ (head asked .loop .inv .1) (inside asked) _ (answered asked) (c .enum-told .given .1)
+    scanning-below _ _ _ _ _ _ (head asked .loop .inv .1) (inside asked) _ (answered asked) (c .enum-told .given .1)
 
 enum-told-2 : tie.Need-enum-told-2 Inv-loop μ-loop
 enum-told-2 c = search needs
@@ -98,12 +107,24 @@ loop-again c =
     let asked = c .before in
     let inv = head asked .loop .inv in
     ⊎-elim
-    (λ w. rw (w .2) (inv .0, scanning-same _ _ _ _ _ (inv .1) (inside asked) _ (answered asked) (w .1 .given .1)))
-    (λ w. rw (w .2) (inv .0, scanning-above _ _ _ _ _ (inv .1) (inside asked) _ (answered asked) (w .1 .given .1)))
+    (λ w. rw (w .2) (inv .0, scanning-same _ _ _ _ _ _ (inv .1) (inside asked) _ (answered asked) (w .1 .given .1)))
+    (λ w. rw (w .2) (inv .0, scanning-above _ _ _ _ _ _ (inv .1) (inside asked) _ (answered asked) (w .1 .given .1)))
     (c .match .came)
 
+sub-comparisons-2 : tie.Need-sub-comparisons-2 Inv-loop μ-loop
+sub-comparisons-2 c = omega (arith, c .before .loop .inv .1 .whole)
+
+sub-comparisons-3 : tie.Need-sub-comparisons-3 Inv-loop μ-loop
+sub-comparisons-3 c = omega (arith, c .before .loop .inv .1 .whole, c .before .loop .inv .1 .positive)
+
+cast-comparisons-2 : tie.Need-cast-comparisons-2 Inv-loop μ-loop
+cast-comparisons-2 c = omega (arith, c .before .loop .inv .1 .inside, c .before .loop .inv .0, begin (c .before) .pre)
+
+add-comparisons-2 : tie.Need-add-comparisons-2 Inv-loop μ-loop
+add-comparisons-2 c = omega (arith, c .before .loop .inv .1 .inside, c .before .loop .inv .0, begin (c .before) .pre)
+
 returns-2 : tie.Need-returns-2 Inv-loop μ-loop
-returns-2 c = let inv = c .before .loop .inv in scanning-end _ _ _ _ _ (inv .1) (omega (arith, c .loop-test .left, inv .0))
+returns-2 c = let inv = c .before .loop .inv in scanning-end _ _ _ _ _ _ (inv .1) (omega (arith, c .loop-test .left, inv .0))
 
 pub scan-spec : {M : Type 1} → statement M
 scan-spec =
@@ -118,6 +139,9 @@ scan-spec =
     shared-slice-read-compare-ranks-2
     compare-ranks-requires
     enum-told
+    sub-comparisons
+    cast-comparisons
+    add-comparisons
     returns
     enum-told-2
     enum-told-3
@@ -126,4 +150,8 @@ scan-spec =
     add-end-2
     loop-less
     loop-again
+    sub-comparisons-2
+    sub-comparisons-3
+    cast-comparisons-2
+    add-comparisons-2
     returns-2)

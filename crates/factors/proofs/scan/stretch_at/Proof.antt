@@ -3,7 +3,7 @@
 use mathlib.Core.Path.{_∙_, sym}
 use borrow.Author.Needs.{needs}
 use borrow.Author.Tests.{lt-ltb, le-ltb}
-use Rattle.factors.specs.Duval.{stretchAt}
+use Rattle.factors.specs.DuvalTurns.{stretchAt}
 use Rattle.factors.proofs.scan.stretch_at.Statement.{statement}
 use Rattle.factors.proofs.scan.stretch_at.Tie as tie
 
