@@ -17,7 +17,7 @@ use Rattle.factors.specs.DuvalSteps.{answerAt}
 use Rattle.factors.specs.DuvalFactorization.{repeats-same, repeats-above}
 use Rattle.factors.specs.DuvalCount.{restart-reached}
 
--- A scan as document 000 has it, from h = `start` until line 4 finds a smaller letter or line 3 the end of the text; per, i and j are there, q
+-- A scan as document 000 has it, from h = `start` until line 4 finds a smaller letter or line 3 the end of the text; per, i and j are as there, q
 -- counts the questions.
 abbrev pub indexedFrom {ℓ κ} : {A : Type ℓ} {O : Letters {ℓ, κ} A} → Decided O → A → List A → (left start per i j q : ℕ) → Scanned
 indexedFrom D z x zero start per i j q = record { period = per; end = j; comparisons = q }
