@@ -1,5 +1,6 @@
 # lib: the static library, proved and ready to link, beside include/lyndon.h. example: a C program that uses it.
-# bench: the benchmark. beside: the library beside an older one, OLD=.../liblyndon.a. test: all tests.
+# bench: the benchmark. beside: the library beside an older one, OLD=.../liblyndon.a, all calls or those whose names begin with a word of
+# CALLS. test: all tests.
 CFLAGS = -O3 -Wall -Wextra -Iinclude -Ibench
 BENCH = bench/bench.c bench/families.c bench/reference.c bench/reference_factors.c bench/reference_ranked.c bench/reference_from_array.c \
 	bench/reference_reader.c bench/suffix_array.c
@@ -23,7 +24,7 @@ bench: lib
 	./target/bench/bench
 
 beside: lib
-	./scripts/beside $(OLD)
+	./scripts/beside $(OLD) $(CALLS)
 
 test:
 	./run-tests

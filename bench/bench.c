@@ -22,7 +22,7 @@ static uint8_t ranks[256];
 struct written {
     lyndon_answer answer;
     uint32_t first[2 * LARGEST];
-    uint32_t second[6 * LARGEST];
+    uint32_t second[3 * LARGEST];
 };
 static struct written ours, theirs, by_suffixes;
 
@@ -62,7 +62,7 @@ static void suffix_array(size_t n) { suffix_array_lyndon(text, n, order, by_suff
 static void our_array_u32(size_t n) { ours.answer = lyndon_array_u32(numbers, n, order, ours.first, n); }
 static void their_array_u32(size_t n) { reference_array_u32(numbers, n, order, theirs.first), theirs.answer = accepted(n); }
 
-static void our_runs(size_t n) { ours.answer = lyndon_runs(text, n, ours.first, 2 * n, ours.second, 6 * n); }
+static void our_runs(size_t n) { ours.answer = lyndon_runs(text, n, ours.first, 2 * n, ours.second, 3 * (n - 1)); }
 static void their_runs(size_t n) { theirs.answer = accepted(reference_runs(text, n, theirs.first, theirs.second)); }
 
 static void our_factorization(size_t n) { ours.answer = lyndon_factorization(text, n, ours.first, n); }
@@ -96,7 +96,7 @@ static void their_reconstruct(size_t n) {
 static void our_array_ranked(size_t n) { ours.answer = lyndon_array_ranked(text, n, order, ranks, 256, ours.first, n); }
 static void their_array_ranked(size_t n) { reference_array_u8_ranked(ranks, text, n, 0, theirs.first), theirs.answer = accepted(n); }
 
-static void our_runs_ranked(size_t n) { ours.answer = lyndon_runs_ranked(text, n, ranks, 256, ours.first, 2 * n, ours.second, 6 * n); }
+static void our_runs_ranked(size_t n) { ours.answer = lyndon_runs_ranked(text, n, ranks, 256, ours.first, 2 * n, ours.second, 3 * (n - 1)); }
 static void their_runs_ranked(size_t n) { theirs.answer = accepted(reference_runs_ranked(ranks, text, n, theirs.first, theirs.second)); }
 
 static void our_factorization_ranked(size_t n) { ours.answer = lyndon_factorization_ranked(text, n, order, ranks, 256, ours.first, n); }
@@ -117,7 +117,7 @@ static void their_left_forest_ranked(size_t n) {
 }
 
 /* The reader's n is its input's length. */
-static void our_reader(size_t n) { ours.answer = lyndon_read_fasta(text, n, (uint8_t *)ours.first, 2048); }
+static void our_reader(size_t n) { ours.answer = lyndon_read_fasta(text, n, (uint8_t *)ours.first, READER_LETTERS); }
 static void their_reader(size_t n) { theirs.answer = accepted(reference_read_fasta(text, n, (uint8_t *)theirs.first)); }
 
 /* The inputs */
@@ -261,7 +261,7 @@ int main(void) {
         {"left forest, ranked", 2, our_left_forest_ranked, their_left_forest_ranked, 0, texts, family_count(), family_name, TEXT_SIZES, 0},
         {"right forest", 0, our_right_forest, their_right_forest, 0, arrays, family_count() + 4, array_name, TEXT_SIZES, 2.5},
         {"reconstruct", 0, our_reconstruct, their_reconstruct, 0, arrays, family_count() + 4, array_name, TEXT_SIZES, 2.5},
-        {"FASTA reader", 0, our_reader, their_reader, 0, records, record_count(), record_name, {512, 1024, 2048}, 0},
+        {"FASTA reader", 0, our_reader, their_reader, 0, records, record_count(), record_name, {1024, 2048, 4096}, 0},
     };
     int count = (int)(sizeof calls / sizeof calls[0]);
     static struct result results[32];

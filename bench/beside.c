@@ -1,8 +1,10 @@
 /* Times this library beside an older one whose names have `old_` before them (scripts/beside makes that one). Both are in one program and
  * take turns. Prints a line for each call, size and family: nanoseconds a letter now and before, and below 10,000 letters nanoseconds a call.
- * What the two write is compared in full. PAD bytes stand before the functions, so that they can be laid out in several ways. */
+ * What the two write is compared in full. Given arguments, only calls whose names begin with one of them are timed. PAD bytes stand before
+ * the functions, so that they can be laid out in several ways. */
 #include "families.h"
 #include "lyndon.h"
+#include "reference.h"
 #include <stdio.h>
 #include <stdlib.h>
 #include <string.h>
@@ -45,7 +47,8 @@ struct written {
 static struct written buffers, kept;
 static struct written *const b = &buffers;
 
-/* A call of each library, on text and n. Both write into the same buffers: where those lie in memory counts too. */
+/* A call of each library, on text and n. Both write into the same buffers: where those lie in memory counts too. An older library may ask
+ * for a longer run list than this one, and for fewer letters of the reader; both are given what suffices for either. */
 #define CALLS(id, now_call, before_call) \
     static void now_##id(size_t n) { now_call; } \
     static void before_##id(size_t n) { before_call; }
@@ -60,7 +63,7 @@ SAME(suffix_table, suffix_table, text, n, b->first, n)
 SAME(left_forest, left_forest, text, n, b->first, n, b->second, n)
 SAME(right_forest, right_forest, numbers, n, b->first, n, b->second, n)
 SAME(reconstruct, reconstruct, numbers, n, b->first, n)
-SAME(reader, read_fasta, text, n, (uint8_t *)b->first, 2048)
+SAME(reader, read_fasta, text, n, (uint8_t *)b->first, READER_LETTERS)
 SAME(array_ranked, array_ranked, text, n, LYNDON_RANKED, ranks, 256, b->first, n)
 SAME(runs_ranked, runs_ranked, text, n, ranks, 256, b->first, 2 * n, b->second, 6 * n)
 SAME(factorization_ranked, factorization_ranked, text, n, LYNDON_RANKED, ranks, 256, b->first, n)
@@ -126,7 +129,14 @@ static void beside(const struct call *call, int input, const char *name, size_t 
     fflush(stdout);
 }
 
-int main(void) {
+/* Whether a call is to be timed. */
+static int asked_for(const struct call *call, int argc, char **argv) {
+    for (int a = 1; a < argc; a++)
+        if (strncmp(call->name, argv[a], strlen(argv[a])) == 0) return call->in_both;
+    return argc == 1 && call->in_both;
+}
+
+int main(int argc, char **argv) {
     const struct call calls[] = {
         {"array rising", now_array_rising, before_array_rising, 1, texts},
         {"array falling", now_array_falling, before_array_falling, 1, texts},
@@ -150,14 +160,17 @@ int main(void) {
     };
     const size_t sizes[] = {65536, 262144, 1048576}, short_sizes[] = {1, 16, 32, 256}, record_sizes[] = {256, 2048};
     for (int a = 0; a < 256; a++) ranks[a] = (uint8_t)(a ^ 3);
+    int some = 0;
     for (size_t c = 0; c < sizeof calls / sizeof *calls; c++) {
-        if (!calls[c].in_both) continue;
+        if (!asked_for(&calls[c], argc, argv)) continue;
+        some = 1;
         for (int s = 0; s < 4; s++) beside(&calls[c], 0, family_name(0), short_sizes[s]);
         for (int s = 0; s < 3; s++)
             for (int f = 0; f < family_count(); f++) beside(&calls[c], f, family_name(f), sizes[s]);
     }
     const struct call reader = {"reader", now_reader, before_reader, 1, records};
-    for (int s = 0; s < 2; s++)
-        for (int r = 0; r < record_count(); r++) beside(&reader, r, record_name(r), record_sizes[s]);
-    return 0;
+    for (int s = 0; s < 2 && asked_for(&reader, argc, argv); s++)
+        for (int r = 0; r < record_count(); r++) some = 1, beside(&reader, r, record_name(r), record_sizes[s]);
+    if (!some) fprintf(stderr, "beside: no call has such a name\n");
+    return some ? 0 : 2;
 }

@@ -3,9 +3,11 @@
 #define REFERENCE_H
 #include <stddef.h>
 #include <stdint.h>
+/* The most letters and bytes of a FASTA input. */
+enum { READER_LETTERS = 4096, READER_BYTES = 16384 };
 void reference_array_u8(const uint8_t *x, size_t n, uint32_t order, uint32_t *L);
 void reference_array_u32(const uint32_t *x, size_t n, uint32_t order, uint32_t *L);
-/* The number of runs; list holds three numbers for each. */
+/* The number of runs, below n; list holds three numbers for each. */
 size_t reference_runs(const uint8_t *x, size_t n, uint32_t *work, uint32_t *list);
 /* The number of factors, and of letter comparisons: a question for less, equal or greater counts once. */
 size_t reference_factorization(const uint8_t *x, size_t n, uint32_t *out, uint32_t *comparisons);

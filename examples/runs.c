@@ -17,15 +17,17 @@ int main(int argc, char **argv) {
     const uint8_t *text = (const uint8_t *)argv[1];
     size_t n = strlen(argv[1]);
 
-    /* Lengths count numbers, not bytes: 2 n for the work buffer, 6 n for the list. */
+    /* Lengths count numbers, not bytes: 2 n for the work buffer, three for each of at most n - 1 runs for the list. Where there is no
+     * letter, n - 1 would wrap. malloc has a place more, since of nothing it may give null. */
+    size_t places = n == 0 ? 0 : 3 * (n - 1);
     uint32_t *work = malloc((2 * n + 1) * sizeof *work);
-    uint32_t *list = malloc((6 * n + 1) * sizeof *list);
+    uint32_t *list = malloc((places + 1) * sizeof *list);
     if (!work || !list) {
         fprintf(stderr, "runs: out of memory\n");
         return 2;
     }
 
-    lyndon_answer answer = lyndon_runs(text, n, work, 2 * n, list, 6 * n);
+    lyndon_answer answer = lyndon_runs(text, n, work, 2 * n, list, places);
     if (answer.number != 0) {
         /* A refusal has changed no buffer; value is the position it names. */
         printf("refused %u at %u\n", answer.number, answer.value);

@@ -33,8 +33,8 @@ extern "C" {
  *      is that byte's
  *  12  a second record begins; the position is that of its '>'
  *  13  there is no letter; the position is the input's length
- *  14  there is a 2,049th letter; the position is that letter's in the input
- *  15  the input is longer than 8,192 bytes; the position is 8192
+ *  14  there is a 4,097th letter; the position is that letter's in the input
+ *  15  the input is longer than 16,384 bytes; the position is 16384
  *  16  a rank table that is to be used does not have 256 entries
  * Checks are made in the order 1, 2, 3, 16, 4, 5, then 6 and 7 in one pass, then 8; for FASTA 4, 15, 9, 10, then 11, 12 and 14 in one
  * pass, 13.
@@ -57,8 +57,10 @@ lyndon_answer lyndon_array_u8(const uint8_t *text, size_t n, uint32_t order, uin
 lyndon_answer lyndon_array_u32(const uint32_t *text, size_t n, uint32_t order, uint32_t *out, size_t out_len);
 
 /* All runs (maximal periodicities) of a text: list holds start, last position and period for each run, by start and then by last
- * position; the count is the number of runs. The list needs 6 n places, the work buffer 2 n; afterwards work holds the rising Lyndon
- * array and then the falling one. Bytes are compared as they are: 'a' and 'A' are two letters. Refusals 1, 2, 4 (list), 5. */
+ * position; the count is the number of runs, at most n - 1. The list needs 3 (n - 1) places, whatever the text; for one letter it may be
+ * empty, and the pointer null. For n = 0, which is refused with 1, n - 1 would wrap: give the length that the buffer has. The work buffer
+ * needs 2 n places; afterwards it holds the rising Lyndon array and then the falling one. Bytes are compared as they are: 'a' and 'A' are
+ * two letters. Refusals 1, 2, 4 (list), 5. */
 lyndon_answer lyndon_runs(const uint8_t *text, size_t n, uint32_t *work, size_t work_len, uint32_t *list, size_t list_len);
 
 /* The Lyndon factorization, rising: out holds the starts of the factors, the unique Lyndon words u0 >= u1 >= .. whose row is the text.
@@ -100,15 +102,15 @@ lyndon_answer lyndon_suffix_table_ranked(const uint8_t *text, size_t n, uint32_t
 lyndon_answer lyndon_left_forest_ranked(const uint8_t *text, size_t n, uint32_t order, const uint8_t *table, size_t table_len,
     uint32_t *first, size_t first_len, uint32_t *past, size_t past_len);
 
-/* All runs where letters of one rank are equal. Takes the table alone; afterwards work holds the Lyndon array rising by rank and then the
- * one falling by rank. Refusals 1, 2, 16, 4 (list), 5. */
+/* All runs where letters of one rank are equal. Takes the table alone, and buffers as lyndon_runs does; afterwards work holds the Lyndon
+ * array rising by rank and then the one falling by rank. Refusals 1, 2, 16, 4 (list), 5. */
 lyndon_answer lyndon_runs_ranked(const uint8_t *text, size_t n, const uint8_t *table, size_t table_len, uint32_t *work, size_t work_len,
     uint32_t *list, size_t list_len);
 
 /* The letters of a FASTA input of one record, as capitals: a lower-case letter is the same base, masked, and a to z are written as A to Z.
  * A record is '>', a name of 1 to 60 bytes from 33 to 126 ended by space, tab, CR, LF or the end, the rest of that line, then sequence lines
  * of letters, A to Z and a to z. LF, or CR and LF, ends a line; blank lines are skipped.
- * An input has at most 8,192 bytes, and may be empty (refusal 9). The letters buffer needs 2,048 places, whatever the input; the count
+ * An input has at most 16,384 bytes, and may be empty (refusal 9). The letters buffer needs 4,096 places, whatever the input; the count
  * is the number of letters. Refusals 4, 15, 9, 10, 11, 12, 14, 13. */
 lyndon_answer lyndon_read_fasta(const uint8_t *input, size_t len, uint8_t *letters, size_t letters_len);
 

@@ -1,4 +1,5 @@
 //! Refusals.
+use crate::{MAX_INPUT, MAX_LENGTH, MAX_LETTERS};
 use std::fmt;
 
 /// A refusal: its number, and the position that it names (0 where it names none).
@@ -21,7 +22,7 @@ impl fmt::Display for Error {
         let at = self.position;
         match self.number {
             1 => write!(f, "the text or array is empty"),
-            2 => write!(f, "the text or array is longer than 1,048,576"),
+            2 => write!(f, "the text or array is longer than {MAX_LENGTH}"),
             3 => write!(f, "the order number is not one that the call takes"),
             4 => write!(f, "an output buffer is shorter than needed"),
             5 => write!(f, "the work buffer is shorter than twice the text"),
@@ -33,8 +34,8 @@ impl fmt::Display for Error {
             11 => write!(f, "byte {at} is unfit for a sequence line"),
             12 => write!(f, "a second record starts at byte {at}"),
             13 => write!(f, "the input holds no letter (it ends at byte {at})"),
-            14 => write!(f, "byte {at} is a letter past the 2,048 that are read"),
-            15 => write!(f, "the input is longer than 8,192 bytes"),
+            14 => write!(f, "byte {at} is a letter past the {MAX_LETTERS} that are read"),
+            15 => write!(f, "the input is longer than {MAX_INPUT} bytes"),
             16 => write!(f, "the rank table does not have 256 entries"),
             _ => write!(f, "refused at position {at}"),
         }?;

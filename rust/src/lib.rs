@@ -36,13 +36,23 @@ pub use ranks::{GroupError, LetterOrder, Ranks};
 /// The largest number of letters of a text, or of entries of an array.
 pub const MAX_LENGTH: usize = 1_048_576;
 /// The largest number of bytes of a FASTA input.
-pub const MAX_INPUT: usize = 8_192;
+pub const MAX_INPUT: usize = 16_384;
 /// The largest number of letters that [`read_fasta`] reads, and the length of the buffer that [`read_fasta_into`] asks for.
-pub const MAX_LETTERS: usize = 2_048;
-/// The numbers that the list of [`runs_into`] and [`runs_ranked_into`] needs for each letter of the text.
-pub const LIST_PLACES: usize = 6;
+pub const MAX_LETTERS: usize = 4_096;
 /// The numbers that the work buffer of [`runs_into`] and [`runs_ranked_into`] needs for each letter of the text.
 pub const WORK_PLACES: usize = 2;
+
+/// The numbers that the list of [`runs_into`] and [`runs_ranked_into`] needs for a text of `n` letters: three for each of the at most `n - 1`
+/// runs that it has, so none for one letter; 0 for an empty text too, which is refused.
+///
+/// ```
+/// assert_eq!(lyndon::run_list_length(6), 15);
+/// assert_eq!(lyndon::run_list_length(1), 0);
+/// assert_eq!(lyndon::run_list_length(0), 0);
+/// ```
+pub const fn run_list_length(n: usize) -> usize {
+    n.saturating_sub(1).saturating_mul(3)
+}
 
 /// How two letters compare. In both orders a proper prefix is smaller than the longer word.
 #[derive(Clone, Copy, Debug, Default, PartialEq, Eq, Hash)]
@@ -127,14 +137,19 @@ fn factors_counted(answer: ffi::Answer) -> Result<FactorCount, Error> {
     counted(answer).map(|count| FactorCount { count, comparisons: answer.comparisons })
 }
 
-/// Room for `places` numbers for each of `n` letters; no more than the longest text needs, since a longer one is refused before its
+/// Room for the numbers that a text of `n` letters needs; no more than the longest text does, since a longer one is refused before its
 /// buffers are measured.
-fn room(n: usize, places: usize) -> Vec<u32> {
-    vec![0; n.min(MAX_LENGTH) * places]
+fn room(n: usize, needed: impl Fn(usize) -> usize) -> Vec<u32> {
+    vec![0; needed(n.min(MAX_LENGTH))]
+}
+
+/// A place for each letter.
+fn row(n: usize) -> Vec<u32> {
+    room(n, |n| n)
 }
 
 fn filled(n: usize, call: impl FnOnce(&mut [u32]) -> Result<usize, Error>) -> Result<Vec<u32>, Error> {
-    let mut out = room(n, 1);
+    let mut out = row(n);
     let count = call(&mut out)?;
     out.truncate(count);
     Ok(out)
@@ -151,13 +166,13 @@ fn all_factors(n: usize, call: impl FnOnce(&mut [u32]) -> Result<FactorCount, Er
 }
 
 fn forest(n: usize, call: impl FnOnce(&mut [u32], &mut [u32]) -> Result<usize, Error>) -> Result<Forest, Error> {
-    let (mut first, mut past) = (room(n, 1), room(n, 1));
+    let (mut first, mut past) = (row(n), row(n));
     call(&mut first, &mut past)?;
     Ok(Forest { first, past })
 }
 
 fn all_runs(n: usize, call: impl FnOnce(&mut [u32], &mut [u32]) -> Result<usize, Error>) -> Result<Vec<Run>, Error> {
-    let (mut work, mut list) = (room(n, WORK_PLACES), room(n, LIST_PLACES));
+    let (mut work, mut list) = (room(n, |n| WORK_PLACES * n), room(n, run_list_length));
     let count = call(&mut work, &mut list)?;
     Ok(listed(&list[..3 * count]).collect())
 }
@@ -373,17 +388,18 @@ pub fn runs(text: &[u8]) -> Result<Vec<Run>, Error> {
     all_runs(text.len(), |work, list| runs_into(text, work, list))
 }
 
-/// [`runs`] into a list of at least `6 n` places: start, last position and period of each run; [`listed`] reads them. The count is the
-/// number of runs. The work buffer has at least `2 n` places, and afterwards holds the rising Lyndon array and then the falling one.
+/// [`runs`] into a list of at least `3 (n - 1)` places ([`run_list_length`]), which for one letter may be empty: start, last position and period
+/// of each run; [`listed`] reads them. The count is the number of runs. The work buffer has at least `2 n` places, and afterwards holds the
+/// rising Lyndon array and then the falling one.
 ///
 /// # Errors
 ///
 /// Refuses an empty text (refusal 1) and one of more than [`MAX_LENGTH`] letters (2); also where `list` (4) or `work` (5) is too short.
 ///
 /// ```
-/// let (mut work, mut list) = ([0; 6], [0; 18]);
+/// let (mut work, mut list) = ([0; 6], [0; 6]);
 /// assert_eq!(lyndon::runs_into(b"aab", &mut work, &mut list)?, 1);
-/// assert_eq!(list[..3], [0, 1, 1]);
+/// assert_eq!(list, [0, 1, 1, 0, 0, 0]);
 /// assert_eq!(work, [3, 2, 1, 1, 1, 1]);
 /// # Ok::<(), lyndon::Error>(())
 /// ```
@@ -561,7 +577,7 @@ pub fn read_fasta(input: &[u8]) -> Result<Vec<u8>, Error> {
     Ok(letters)
 }
 
-/// [`read_fasta`] into a buffer of at least 2,048 places. The count is the number of letters.
+/// [`read_fasta`] into a buffer of at least [`MAX_LETTERS`] places. The count is the number of letters.
 ///
 /// # Errors
 ///

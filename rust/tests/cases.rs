@@ -40,8 +40,13 @@ fn run_cases(calls: &[&str], mut run: impl FnMut(&str, &str, &Json, &Json)) -> u
     count
 }
 
+/// The length of a buffer, where the case gives one.
+fn lent(case: &Json, name: &str) -> Option<usize> {
+    case.get(name).map(|p| p.number() as usize)
+}
+
 fn places(case: &Json, name: &str, ample: usize) -> Vec<u32> {
-    vec![0; case.get(name).map_or(ample, |p| p.number() as usize)]
+    vec![0; lent(case, name).unwrap_or(ample)]
 }
 
 #[test]
@@ -83,17 +88,43 @@ fn forests() {
     assert_eq!(count, 116 + 515);
 }
 
+/// A run list needs 3 × (n − 1) numbers (document 02, E4): so many are lent where a case gives no length. Cases that lend 6 × n numbers, or one
+/// less, are also run with the new figure, or one less. 6 × n − 1 is now enough: the answer wanted is that of the case that lends one more.
 #[test]
 fn runs() {
+    let work_fits = |case: &Json, n: usize| lent(case, "work").map_or(true, |work| work >= 2 * n);
+    let mut enough = HashMap::new();
+    run_cases(&["runs"], |_, _, case, want| {
+        let text = case.get("text").unwrap().bytes();
+        if lent(case, "places") == Some(6 * text.len()) {
+            enough.insert((text.clone(), work_fits(case, text.len())), want.clone());
+        }
+    });
+    let mut moved = 0;
     let count = run_cases(&["runs"], |line, _, case, want| {
         let text = case.get("text").unwrap().bytes();
-        let mut list = places(case, "places", 6 * text.len() + 5);
-        let mut work = places(case, "work", 2 * text.len() + 5);
-        let got = common::runs(&text, &mut work, &mut list);
-        let (w_work, w_list) = (numbers(want, "work"), numbers(want, "list"));
-        common::compare(line, got, &[&work, &list], wanted(want), &[w_work.as_deref(), w_list.as_deref()]);
+        let n = text.len();
+        let check = |list_places: usize, want: &Json| {
+            let (mut work, mut list) = (places(case, "work", 2 * n + 5), vec![0; list_places]);
+            let got = common::runs(&text, &mut work, &mut list);
+            let (w_work, w_list) = (numbers(want, "work"), numbers(want, "list"));
+            common::compare(line, got, &[&work, &list], wanted(want), &[w_work.as_deref(), w_list.as_deref()]);
+        };
+        match lent(case, "places") {
+            None => check(definitions::list_length(n), want),
+            Some(places) if n > 0 && places == 6 * n => {
+                check(places, want);
+                check(3 * (n - 1), want);
+            }
+            Some(places) if n > 0 && places + 1 == 6 * n => {
+                moved += 1;
+                check(places, &enough[&(text.clone(), work_fits(case, n))]);
+                check(3 * (n - 1) - 1, want);
+            }
+            Some(places) => check(places, want),
+        }
     });
-    assert_eq!(count, 120);
+    assert_eq!((count, moved), (120, 3));
 }
 
 /// Document 02's cases of a call.
@@ -129,7 +160,7 @@ fn ranked() {
         let forest = [Some(&list("first")[..]), Some(&list("past")[..])];
         common::compare(&format!("ranked left forest, {what}"), got, &[&first, &past], answer(n), &forest);
         if order <= 2 {
-            let (mut work, mut runs) = (vec![0; 2 * n + 5], vec![0; 6 * n + 5]);
+            let (mut work, mut runs) = (vec![0; 2 * n + 5], vec![0; definitions::list_length(n) + 5]);
             let got = common::runs_ranked(&text, &table, &mut work, &mut runs);
             let written = [Some(&list("work")[..]), Some(&list("runs")[..])];
             common::compare(&format!("ranked runs, {what}"), got, &[&work, &runs], answer(list("runs").len() / 3), &written);
@@ -158,23 +189,47 @@ fn letters_compared() {
     assert_eq!(count, 110);
 }
 
-/// The letters are capitals (document 02, E2): those of document 02's case of the same input.
+/// The reader's cases of document 02, with E4's limits: capitals (E2), 4,096 letters and 16,384 bytes.
+#[test]
+fn reader_of_longer_records() {
+    let mut count = 0;
+    for case in later("e4_reader") {
+        check_reader(&format!("case {count} of e4_reader"), &case, case.get("want").unwrap());
+        count += 1;
+    }
+    assert_eq!(count, 133);
+}
+
+fn check_reader(what: &str, case: &Json, want: &Json) {
+    let mut letters = vec![0u8; lent(case, "places").unwrap_or(definitions::MAX_LETTERS + 5)];
+    let got = common::read_fasta(&case.get("input").unwrap().bytes(), &mut letters);
+    let written = want.get("letters").map(Json::bytes);
+    common::compare(what, got, &[&letters], wanted(want), &[written.as_deref()]);
+}
+
+/// Letters are capitals (E2), and limits those of E4: what is wanted is what document 02's case of the same input and buffer wants. Where there is
+/// none, a buffer of fewer than 4,096 places is refused with 4, and nothing else moves.
 #[test]
 fn reader() {
-    let capitals = wanted_later("e4_reader");
-    let mut moved = 0;
-    let count = run_cases(&["reader"], |line, _, case, want| {
-        let input = case.get("input").unwrap().bytes();
-        let mut letters = vec![0u8; case.get("places").map_or(2053, |p| p.number() as usize)];
-        let got = common::read_fasta(&input, &mut letters);
-        let written = want.get("letters").map(|before| {
-            let now = capitals[&input].get("letters").unwrap().bytes();
-            moved += usize::from(now != before.bytes());
-            now
-        });
-        common::compare(line, got, &[&letters], wanted(want), &[written.as_deref()]);
+    let given = |case: &Json| (case.get("input").unwrap().bytes(), lent(case, "places"));
+    let later: HashMap<_, _> = later("e4_reader").map(|case| (given(&case), case.get("want").unwrap().clone())).collect();
+    let short = Json::read(r#"{"no":4,"at":0}"#);
+    let (mut answers_moved, mut letters_moved) = (0, 0);
+    let count = run_cases(&["reader"], |line, _, case, before| {
+        let now = match (later.get(&given(case)), lent(case, "places")) {
+            (Some(want), _) => want,
+            (None, Some(places)) if places < definitions::MAX_LETTERS => &short,
+            (None, _) => before,
+        };
+        let letters = |want: &Json| want.get("letters").map(Json::bytes);
+        if wanted(now) != wanted(before) {
+            answers_moved += 1;
+        } else if letters(now) != letters(before) {
+            letters_moved += 1;
+        }
+        check_reader(line, case, now);
     });
-    assert_eq!((count, moved), (140, 24));
+    assert_eq!((count, answers_moved, letters_moved), (140, 13, 24));
 }
 
 /// A listing whose periods have no unit's name behind them.
@@ -187,7 +242,8 @@ fn without_names(listing: &[u8]) -> String {
     cut.map(|line| format!("{line}\n")).collect()
 }
 
-/// Refusals stay. A listing is that of the capitals (E2): what document 02's case of the same input has, without the names (E11).
+/// Refusals stay, since no case meets a limit that moved. A listing is that of the capitals (E2): what document 02's case of the same input has,
+/// without the names (E11).
 #[test]
 fn lister() {
     let program = common::lister::program();

@@ -3,8 +3,8 @@ mod common;
 mod definitions;
 mod faster;
 
-use common::Numbers;
-use definitions::{rising_answer as rising, Expected};
+use common::{all_texts, Numbers};
+use definitions::{list_length, rising_answer as rising, Expected, MAX_INPUT, MAX_LETTERS};
 use faster::Lists;
 use lyndon::Error;
 
@@ -112,7 +112,7 @@ fn check_runs_ranked(x: &[u8], table: &[u8], work_places: usize, list_places: us
 /// Every ranked call that looks at a table.
 fn check_by_table(x: &[u8], table: &[u8]) {
     check_ranked(x, 2, table, x.len() + SPARE, x.len() + 1);
-    check_runs_ranked(x, table, 2 * x.len() + SPARE, 6 * x.len() + SPARE);
+    check_runs_ranked(x, table, 2 * x.len() + SPARE, list_length(x.len()) + SPARE);
 }
 
 /// Every call that takes a text of bytes, and those that take its array.
@@ -126,7 +126,7 @@ fn check_text(x: &[u8]) {
     check_factors(x, n);
     check_suffix_table(x, n);
     check_left_forest(x, n, n + 1);
-    check_runs(x, 2 * x.len() + SPARE, 6 * x.len() + SPARE);
+    check_runs(x, 2 * x.len() + SPARE, list_length(x.len()) + SPARE);
     if !x.is_empty() {
         for order in [0, 1] {
             check_array_of_text(x, order);
@@ -146,20 +146,6 @@ fn check_array_of_text(x: &[u8], order: u32) {
         let forest = lyndon::right_forest(&a).unwrap();
         assert_eq!((forest.first, forest.past), definitions::right_forest(x), "right forest of {x:?}");
     }
-}
-
-/// All texts of n letters over an alphabet.
-fn all_texts(alphabet: &[u8], n: usize) -> impl Iterator<Item = Vec<u8>> + '_ {
-    let k = alphabet.len();
-    (0..k.pow(n as u32)).map(move |mut number| {
-        (0..n)
-            .map(|_| {
-                let letter = alphabet[number % k];
-                number /= k;
-                letter
-            })
-            .collect()
-    })
 }
 
 #[test]
@@ -191,6 +177,19 @@ fn most_comparisons() {
     for (alphabet, wanted) in [(&b"ab"[..], &two[..]), (b"abc", &three)] {
         for (n, &most) in (1..).zip(wanted) {
             let counts = all_texts(alphabet, n).map(|x| lyndon::factorization(&x).unwrap().comparisons);
+            assert_eq!(counts.max(), Some(most), "{n} letters, {} different", alphabet.len());
+        }
+    }
+}
+
+/// The largest number of runs for each length from 1 on, by trying all texts.
+#[test]
+fn most_runs() {
+    let two = [0, 1, 1, 2, 2, 3, 4, 5, 5, 6, 7, 8, 8, 10];
+    let three = [0, 1, 1, 2, 2, 3, 4, 5, 5];
+    for (alphabet, wanted) in [(&b"ab"[..], &two[..]), (b"abc", &three)] {
+        for (n, &most) in (1..).zip(wanted) {
+            let counts = all_texts(alphabet, n).map(|x| lyndon::runs(&x).unwrap().len());
             assert_eq!(counts.max(), Some(most), "{n} letters, {} different", alphabet.len());
         }
     }
@@ -314,7 +313,7 @@ fn two_faults_at_once() {
         let order = numbers.pick(&[0, 1, 2, 3, 256, u32::MAX]);
         let mut short = |full: usize| -> usize { numbers.pick(&[0, full.saturating_sub(1), full, full + 1, full / 2]) };
         let (p, q) = (short(n), short(n));
-        let (work, list) = (short(2 * n), short(6 * n));
+        let (work, list) = (short(2 * n), short(list_length(n)));
         check_array8(&x, order, p);
         let letters: Vec<u32> = x.iter().map(|&l| u32::from(l)).collect();
         check_array32(&letters, order, p);
@@ -404,7 +403,7 @@ fn faults_of_ranked_calls() {
             for (order, places) in pairs(&[0, 1, 2, 3, u32::MAX], &lengths(n)) {
                 lengths(n).into_iter().for_each(|past_places| check_ranked(&x, order, &table[..entries], places, past_places));
             }
-            for (work, list) in pairs(&lengths(2 * n), &lengths(6 * n)) {
+            for (work, list) in pairs(&lengths(2 * n), &lengths(list_length(n))) {
                 check_runs_ranked(&x, &table[..entries], work, list);
             }
         }
@@ -463,7 +462,7 @@ fn inputs_changed_at_random() {
         for _ in 0..round % 4 {
             damage(&mut numbers, &mut input);
         }
-        let places = numbers.pick(&[2048, 2048, 2049, 2060, 2060, 2047, 0]);
+        let places = numbers.pick(&[MAX_LETTERS, MAX_LETTERS, MAX_LETTERS + 1, MAX_LETTERS + 12, MAX_LETTERS + 12, MAX_LETTERS - 1, 0]);
         if let Expected::Refused { number, .. } = definitions::read_fasta(&input, places) {
             seen[number as usize] += 1;
         } else {
@@ -480,11 +479,11 @@ fn every_byte_at_every_place() {
         for i in 0..13 {
             let mut input = b">m1 x\nAc\r\nGt\n".to_vec();
             input[i] = byte;
-            check_reader(&input, 2050);
+            check_reader(&input, MAX_LETTERS + 2);
             input.insert(i, b'A');
-            check_reader(&input, 2050);
+            check_reader(&input, MAX_LETTERS + 2);
             input.truncate(i + 2);
-            check_reader(&input, 2050);
+            check_reader(&input, MAX_LETTERS + 2);
         }
     }
 }
@@ -493,8 +492,8 @@ fn every_byte_at_every_place() {
 fn inputs_at_the_limits() {
     let mut numbers = Numbers::new(7);
     for name in [1, 59, 60, 61] {
-        for letters in [2046, 2047, 2048, 2049, 2050] {
-            for width in [1, 60, 3000] {
+        for letters in MAX_LETTERS - 2..=MAX_LETTERS + 2 {
+            for width in [1, 60, 5000] {
                 for end in [b"".as_slice(), b"\n", b"\r\n", b"\r", b"\n>", b"!", b"A"] {
                     let mut input = [b">".as_slice(), &vec![b'm'; name], b"\n"].concat();
                     for i in 0..letters {
@@ -504,24 +503,24 @@ fn inputs_at_the_limits() {
                         }
                     }
                     input.extend(end);
-                    check_reader(&input, 2048);
-                    check_reader(&input, 2047);
+                    check_reader(&input, MAX_LETTERS);
+                    check_reader(&input, MAX_LETTERS - 1);
                 }
             }
         }
     }
     // The size of the input, with a fault inside and without.
-    for size in [8190, 8191, 8192, 8193, 9000] {
+    for size in [MAX_INPUT - 2, MAX_INPUT - 1, MAX_INPUT, MAX_INPUT + 1, 20_000] {
         for front in [b">m\nACGT".as_slice(), b">m\n", b"m\nA", b"> \nA", b">m\nA-", b">m\nA\n>"] {
             let mut input = front.to_vec();
             input.resize(size, b'\n');
-            check_reader(&input, 2048);
+            check_reader(&input, MAX_LETTERS);
             check_reader(&input, 100);
             input[size - 1] = b'-';
-            check_reader(&input, 2048);
+            check_reader(&input, MAX_LETTERS);
         }
         let header = [b">m ".as_slice(), &vec![0x80; size - 3]].concat();
-        check_reader(&header, 2048);
+        check_reader(&header, MAX_LETTERS);
     }
 }
 
@@ -536,7 +535,7 @@ fn listings() {
             input[i] = numbers.pick(b"\r\n>- A");
         }
         if round % 5 == 0 {
-            let n = 1 + numbers.below(2048);
+            let n = 1 + numbers.below(MAX_LETTERS);
             let x = common::repetitive(&mut numbers, n);
             input = [b">chr1 of a test\n".as_slice(), &x, b"\n"].concat();
         }
@@ -554,13 +553,13 @@ fn letters_in_the_other_case() {
     for round in 0..12_000 {
         let mut input = match round % 8 {
             0 => {
-                let n = 1 + numbers.below(2048);
+                let n = 1 + numbers.below(MAX_LETTERS);
                 let x = common::repetitive(&mut numbers, n);
                 [b">Chr1 of a test\n".as_slice(), &x, b"\n"].concat()
             }
             // Letters about as many as there may be, or bytes.
             1 if round % 5 == 0 => {
-                let n = numbers.pick(&[2047, 2048, 2049, 8188, 8189, 8190]);
+                let n = numbers.pick(&[MAX_LETTERS - 1, MAX_LETTERS, MAX_LETTERS + 1, MAX_INPUT - 4, MAX_INPUT - 3, MAX_INPUT - 2]);
                 [b">m\n".as_slice(), &numbers.text(b"ACGTacgt", n)].concat()
             }
             _ => valid_input(&mut numbers),
@@ -576,7 +575,7 @@ fn letters_in_the_other_case() {
             }
         }
         changed += usize::from(input != other);
-        let places = numbers.pick(&[2048, 2050, 2050, 2050, 2050, 2047]);
+        let places = numbers.pick(&[MAX_LETTERS, MAX_LETTERS + 2, MAX_LETTERS + 2, MAX_LETTERS + 2, MAX_LETTERS - 1]);
         let mut letters = [vec![0; places], vec![0; places]];
         let [one, two] = &mut letters;
         let got = common::read_fasta(&other, two);
@@ -619,7 +618,7 @@ fn check_long(name: &str, x: &[u8], runs: fn(&[u8]) -> Vec<u32>) {
     for a in &lists.arrays {
         check_long_array(name, a);
     }
-    let (mut work, mut list) = (room(2 * n + SPARE), room(6 * n + SPARE));
+    let (mut work, mut list) = (room(2 * n + SPARE), room(list_length(n) + SPARE));
     let got = common::runs(x, &mut work, &mut list);
     let (count, arrays) = (lists.runs.len() / 3, lists.arrays.concat());
     common::compare(&format!("runs, {name}"), got, &[&work, &list], Ok(count), &[Some(&arrays), Some(&lists.runs)]);
@@ -789,7 +788,7 @@ fn forms_that_allocate() {
     for _ in 0..300 {
         let n = numbers.below(30);
         let x = numbers.text(b"abc", n);
-        let (mut out, mut other, mut work, mut list) = (room(n), room(n), room(2 * n), room(6 * n));
+        let (mut out, mut other, mut work, mut list) = (room(n), room(n), room(2 * n), room(list_length(n)));
         for order in [Order::Rising, Order::Falling] {
             let written = lyndon::lyndon_array_into(&x, order, &mut out).map(|count| out[..count].to_vec());
             assert_eq!(lyndon::lyndon_array(&x, order), written);
@@ -808,7 +807,7 @@ fn forms_that_allocate() {
         let written = lyndon::right_forest_into(&a, &mut out, &mut other).map(|_| (out.clone(), other.clone()));
         assert_eq!(lyndon::right_forest(&a).map(|f| (f.first, f.past)), written);
         let input = valid_input(&mut numbers);
-        let mut letters = vec![0; 2048];
+        let mut letters = vec![0; MAX_LETTERS];
         let written = lyndon::read_fasta_into(&input, &mut letters).map(|count| letters[..count].to_vec());
         assert_eq!(lyndon::read_fasta(&input), written);
     }
@@ -832,7 +831,7 @@ fn forms_with_buffers() {
         let letters: Vec<u32> = x.iter().map(|&l| u32::from(l)).collect();
         let a = if n == 0 { vec![] } else { damaged(&mut numbers, n, 1) };
         let mut near = |full: usize| numbers.pick(&[full, full, full + SPARE, full.saturating_sub(1)]);
-        let (p, q, work, list) = (near(n), near(n), near(2 * n), near(6 * n));
+        let (p, q, work, list) = (near(n), near(n), near(2 * n), near(list_length(n)));
         for order in [Order::Rising, Order::Falling] {
             let want = outcome([p], |[out]| common::array8(&x, order.number(), out));
             assert_eq!(outcome([p], |[out]| lyndon::lyndon_array_into(&x, order, out)), want);
@@ -852,7 +851,7 @@ fn forms_with_buffers() {
         assert_eq!(got, outcome([p, q], |[first, past]| common::right_forest(&a, first, past)));
 
         let input = valid_input(&mut numbers);
-        let places = 2047 + numbers.below(4);
+        let places = MAX_LETTERS - 1 + numbers.below(4);
         let (mut one, mut two) = (vec![0; places], vec![0; places]);
         common::fill(&mut two);
         assert_eq!(common::read_fasta(&input, &mut one), lyndon::read_fasta_into(&input, &mut two));
@@ -883,7 +882,7 @@ fn ranked_forms_that_allocate() {
                 let written = common::left_forest_ranked(&x, order.number(), &table, &mut first, &mut past).map(|_| (first, past));
                 assert_eq!(lyndon::left_forest_ranked(&x, order).map(|f| (f.first, f.past)), written);
             }
-            let (mut work, mut list) = (room(2 * n), room(6 * n));
+            let (mut work, mut list) = (room(2 * n), room(list_length(n)));
             let written = common::runs_ranked(&x, &table, &mut work, &mut list);
             let written = written.map(|count| lyndon::listed(&list[..3 * count]).collect::<Vec<_>>());
             assert_eq!(lyndon::runs_ranked(&x, &ranks), written);

@@ -29,5 +29,6 @@ fn runs_of_a_text() {
         rising Lyndon array: 1 3 1 1 3 1 1 3 1 1 1\n\
         falling Lyndon array: 2 1 9 2 1 6 5 1 3 2 1\n";
     assert_eq!((&out[..], code), (want, Some(0)));
+    assert_eq!(run(&program, "a"), ("0 runs\nrising Lyndon array: 1\nfalling Lyndon array: 1\n".to_string(), Some(0)));
     assert_eq!(run(&program, ""), ("refused 1 at 0\n".to_string(), Some(1)));
 }

@@ -5,6 +5,7 @@ mod definitions;
 mod faster;
 
 use common::{ffi, Numbers, RankedInput};
+use definitions::{list_length, MAX_INPUT, MAX_LETTERS};
 use faster::Lists;
 use lyndon::Error;
 use std::ffi::c_void;
@@ -101,7 +102,7 @@ fn check_text(x: &[u8], side: Side) {
     let mut second = room(n, side);
     let got = common::left_forest(text.slice(), out.slice(), second.slice());
     common::compare(&what, got, &[out.slice(), second.slice()], full(n), &[Some(&lists.first), Some(&lists.past)]);
-    let (mut work, mut list) = (room(2 * n, side), room(6 * n, side));
+    let (mut work, mut list) = (room(2 * n, side), room(list_length(n), side));
     let got = common::runs(text.slice(), work.slice(), list.slice());
     let (count, arrays) = (lists.runs.len() / 3, lists.arrays.concat());
     common::compare(&what, got, &[work.slice(), list.slice()], full(count), &[Some(&arrays), Some(&lists.runs)]);
@@ -126,9 +127,12 @@ fn check_text(x: &[u8], side: Side) {
             };
             common::compare(&what, got, &[cut.slice(), second.slice()], short, &[]);
         }
-        let mut cut_list = room(6 * n - 1, side);
-        let got = common::runs(text.slice(), work.slice(), cut_list.slice());
-        common::compare(&what, got, &[work.slice(), cut_list.slice()], short, &[]);
+        // The list of one letter has no place that could be missing.
+        if n > 1 {
+            let mut cut_list = room(list_length(n) - 1, side);
+            let got = common::runs(text.slice(), work.slice(), cut_list.slice());
+            common::compare(&what, got, &[work.slice(), cut_list.slice()], short, &[]);
+        }
         let mut cut_work = room(2 * n - 1, side);
         let got = common::runs(text.slice(), cut_work.slice(), list.slice());
         common::compare(&what, got, &[cut_work.slice(), list.slice()], Err(Error { number: 5, position: 0 }), &[]);
@@ -169,7 +173,10 @@ fn check_ranked(input: &RankedInput, lists: &Lists, side: Side) {
                 let what = format!("ranked runs, guarded, {side:?}, {n} letters");
                 let (count, arrays) = (lists.runs.len() / 3, lists.arrays.concat());
                 for (work_missing, list_missing, short) in [(0, missing, 4), (missing, 0, 5)] {
-                    let (mut work, mut list) = (room(2 * n - work_missing, side), room(6 * n - list_missing, side));
+                    if list_missing > list_length(n) {
+                        continue;
+                    }
+                    let (mut work, mut list) = (room(2 * n - work_missing, side), room(list_length(n) - list_missing, side));
                     let got = common::runs_ranked(text.slice(), table.slice(), work.slice(), list.slice());
                     let written = [Some(&arrays[..]), Some(&lists.runs[..])];
                     common::compare(&what, got, &[work.slice(), list.slice()], answer(count, short), &written);
@@ -277,6 +284,28 @@ fn short_texts() {
     }
 }
 
+/// All texts of two letters, by byte and by rank, with a run list of exactly the places needed, which ends where the forbidden page starts,
+/// and, where there is one, with one place less.
+#[test]
+fn exact_run_lists() {
+    let mut table = vec![7; 256];
+    table[usize::from(b'a')] = 9;
+    for n in 1..=12 {
+        let full = list_length(n);
+        for (x, places) in common::all_texts(b"ab", n).flat_map(|x| (full.saturating_sub(1)..=full).map(move |places| (x.clone(), places)))
+        {
+            let mut text = Guarded::new(&x, Side::End);
+            let (mut work, mut list) = (room(2 * n, Side::End), room(places, Side::End));
+            let got = common::runs(text.slice(), work.slice(), list.slice());
+            let want = definitions::runs_answer(&x, 2 * n, places);
+            common::compare_all(&format!("runs of {x:?}, {places} places"), got, &[work.slice(), list.slice()], &want);
+            let got = common::runs_ranked(text.slice(), &table, work.slice(), list.slice());
+            let want = definitions::runs_ranked_answer(&x, &table, 2 * n, places);
+            common::compare_all(&format!("ranked runs of {x:?}, {places} places"), got, &[work.slice(), list.slice()], &want);
+        }
+    }
+}
+
 #[test]
 fn families() {
     for n in [9, 64, 1023, 1024, 4096, 4099] {
@@ -313,12 +342,12 @@ fn reader() {
             input.extend(numbers.pick(&pieces));
         }
         if round % 50 == 0 {
-            let letters = numbers.pick(&[2047, 2048, 2049, 8187, 8188, 8189]);
+            let letters = numbers.pick(&[MAX_LETTERS - 1, MAX_LETTERS, MAX_LETTERS + 1, MAX_INPUT - 4, MAX_INPUT - 3, MAX_INPUT - 2]);
             input = [b">m\n".as_slice(), &numbers.text(b"ACGTacgt", letters)].concat();
         }
         for side in [Side::End, Side::Start] {
             let mut given = Guarded::new(&input, side);
-            for places in [2048, 2047, 0] {
+            for places in [MAX_LETTERS, MAX_LETTERS - 1, 0] {
                 let mut letters = Guarded::new(&vec![0u8; places], side);
                 let got = common::read_fasta(given.slice(), letters.slice());
                 common::compare_all("guarded reader", got, &[letters.slice()], &definitions::read_fasta(&input, places));

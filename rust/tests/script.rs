@@ -42,9 +42,9 @@ fn assert_failed(output: Output, named: &str) {
 
 /// A record whose listing is long: a name of 60 bytes and many runs.
 fn long_listing() -> (Vec<u8>, Vec<u8>) {
-    let input = [b">".as_slice(), &[b'n'; 60], b"\n", &common::fibonacci(2048), b"\n"].concat();
+    let input = [b">".as_slice(), &[b'n'; 60], b"\n", &common::fibonacci(definitions::MAX_LETTERS), b"\n"].concat();
     let listing = definitions::listing(&input, faster::runs);
-    assert!(listing.len() > 100_000);
+    assert!(listing.len() > 200_000);
     (input, listing)
 }
 
@@ -81,7 +81,7 @@ fn exit_status() {
         assert_eq!(seen(output(&mut script(), input.as_bytes())), (Some(status), want, String::new()), "{input:?}");
     }
     let long = vec![b'>'; 100_000];
-    assert_eq!(seen(output(&mut script(), &long)), (Some(1), "refused 15 at 8192\n".to_string(), String::new()));
+    assert_eq!(seen(output(&mut script(), &long)), (Some(1), "refused 15 at 16384\n".to_string(), String::new()));
 }
 
 #[test]

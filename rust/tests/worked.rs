@@ -150,10 +150,10 @@ fn ranked_forms_with_buffers() {
     assert_eq!(lyndon::suffix_table_ranked_into(text, order, &mut cut), Err(short));
     assert_eq!(lyndon::left_forest_ranked_into(text, order, &mut out, &mut cut), Err(short));
     assert_eq!(lyndon::left_forest_ranked_into(text, order, &mut cut, &mut out), Err(short));
-    let (mut work, mut list, mut cut_work, mut cut_list) = ([9; 9], [9; 25], [9; 7], [9; 23]);
+    let (mut work, mut list, mut cut_work, mut cut_list) = ([9; 9], [9; 10], [9; 7], [9; 8]);
     assert_eq!(lyndon::runs_ranked_into(text, &ranks, &mut work, &mut cut_list), Err(short));
     assert_eq!(lyndon::runs_ranked_into(text, &ranks, &mut cut_work, &mut list), Err(Error { number: 5, position: 0 }));
-    assert_eq!((cut, out, work, list, cut_work, cut_list), ([9; 3], [9; 5], [9; 9], [9; 25], [9; 7], [9; 23]));
+    assert_eq!((cut, out, work, list, cut_work, cut_list), ([9; 3], [9; 5], [9; 9], [9; 10], [9; 7], [9; 8]));
 
     assert_eq!((lyndon::lyndon_array_ranked_into(text, order, &mut out), out), (Ok(4), [4, 1, 2, 1, 9]));
     assert_eq!((lyndon::lyndon_array_ranked_into(text, &ranks, &mut out), out), (Ok(4), [1, 1, 1, 1, 9]));
@@ -252,7 +252,7 @@ fn one_letter_more_is_refused() {
         common::compare("left forest", got, &[&out, &past], long, &[]);
         let got = common::right_forest(&ones, &mut out, &mut past);
         common::compare("right forest", got, &[&out, &past], long, &[]);
-        let (mut work, mut list) = (vec![0; 2 * places], vec![0; 6 * places]);
+        let (mut work, mut list) = (vec![0; 2 * places], vec![0; definitions::list_length(places)]);
         let got = common::runs(&text, &mut work, &mut list);
         common::compare("runs", got, &[&work, &list], long, &[]);
     }
@@ -273,23 +273,52 @@ fn one_letter_more_is_refused() {
     assert_eq!(refusal(lyndon::runs_ranked(&text, &ranks)), (2, 0));
 }
 
+/// Document 01's worked case of refusal 4 with document 02's figure (E4), by byte and by rank: a list of 3 × (n − 1) numbers is accepted, for
+/// one letter an empty one; one less is refused with 4.
 #[test]
-fn a_list_of_six_places_a_letter() {
-    let text = vec![b'a'; LONGEST];
-    let (mut work, mut list) = (vec![0; 2 * LONGEST], vec![0; 6 * LONGEST]);
-    let got = common::runs(&text, &mut work, &mut list);
-    let (ones, run) = (vec![1u32; 2 * LONGEST], [0, LONGEST as u32 - 1, 1]);
-    common::compare("runs", got, &[&work, &list], Ok(1), &[Some(&ones), Some(&run)]);
-    list.pop();
-    let got = common::runs(&text, &mut work, &mut list);
-    common::compare("runs, list short", got, &[&work, &list], Err(Error { number: 4, position: 0 }), &[]);
-    // A short work buffer is found after a short list.
-    work.pop();
-    let got = common::runs(&text, &mut work, &mut list);
-    common::compare("runs, both short", got, &[&work, &list], Err(Error { number: 4, position: 0 }), &[]);
-    list.push(0);
-    let got = common::runs(&text, &mut work, &mut list);
-    common::compare("runs, work short", got, &[&work, &list], Err(Error { number: 5, position: 0 }), &[]);
+fn a_list_of_three_places_for_each_run() {
+    let calls: [(&str, common::RunsCall); 2] =
+        [("runs", common::runs), ("ranked runs", |text, work, list| common::runs_ranked(text, &[5; 256], work, list))];
+    let refused = |number: u32| Err(Error { number, position: 0 });
+    for ((name, call), n) in calls.iter().flat_map(|call| [1, 2, 3, LONGEST].map(|n| (call, n))) {
+        let text = vec![b'a'; n];
+        let (mut work, mut list) = (vec![0; 2 * n], vec![0; 3 * (n - 1)]);
+        let ones = vec![1u32; 2 * n];
+        let runs: &[u32] = if n == 1 { &[] } else { &[0, n as u32 - 1, 1] };
+        let got = call(&text, &mut work, &mut list);
+        common::compare(name, got, &[&work, &list], Ok(runs.len() / 3), &[Some(&ones), Some(runs)]);
+        if list.pop().is_some() {
+            let got = call(&text, &mut work, &mut list);
+            common::compare(&format!("{name}, list short"), got, &[&work, &list], refused(4), &[]);
+            // A short work buffer is found after a short list.
+            work.pop();
+            let got = call(&text, &mut work, &mut list);
+            common::compare(&format!("{name}, both short"), got, &[&work, &list], refused(4), &[]);
+            work.push(0);
+            list.push(0);
+        }
+        work.pop();
+        let got = call(&text, &mut work, &mut list);
+        common::compare(&format!("{name}, work short"), got, &[&work, &list], refused(5), &[]);
+    }
+}
+
+/// Document 02, E4: 4,096 letters and 16,384 bytes are read, one more is refused, and the buffer is asked for whatever the input.
+#[test]
+fn the_longest_record() {
+    let record = |letters: usize, line_ends: usize| [b">m\n".as_slice(), &vec![b'A'; letters], &vec![b'\n'; line_ends]].concat();
+    assert_eq!(lyndon::read_fasta(&record(4096, 0)).unwrap().len(), 4096);
+    assert_eq!(refusal(lyndon::read_fasta(&record(4097, 0))), (14, 4099));
+    assert_eq!(lyndon::read_fasta(&record(1, 16_380)).unwrap().len(), 1);
+    assert_eq!(refusal(lyndon::read_fasta(&record(1, 16_381))), (15, 16_384));
+    assert_eq!(refusal(lyndon::read_fasta_into(&record(1, 0), &mut [0; 4095])), (4, 0));
+    assert_eq!(lyndon::read_fasta_into(&record(1, 0), &mut [0; 4096]), Ok(1));
+    // The lister takes them too.
+    let program = common::lister::program();
+    assert_eq!(common::lister::run(&program, &record(4096, 0)), b"m\t0\t4096\tp1\n");
+    assert_eq!(common::lister::run(&program, &record(4097, 0)), b"refused 14 at 4099\n");
+    assert_eq!(common::lister::run(&program, &record(2, 16_379)), b"m\t0\t2\tp1\n");
+    assert_eq!(common::lister::run(&program, &record(2, 16_380)), b"refused 15 at 16384\n");
 }
 
 #[test]
@@ -337,5 +366,8 @@ fn every_refusal_has_a_sentence() {
     }
     for number in [6, 7, 8, 10, 11, 12, 13, 14] {
         assert!(sentences[number - 1].contains('7'));
+    }
+    for (number, limit) in [(2, "1048576"), (14, "4096"), (15, "16384")] {
+        assert!(sentences[number - 1].contains(limit));
     }
 }

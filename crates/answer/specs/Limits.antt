@@ -1,6 +1,6 @@
 -- The limits of documents 01 and 02.
 -- Assumes nothing.
-use Prim.Native.Nat.{ℕ, _*_, _≤_}
+use Prim.Native.Nat.{ℕ, _-_, _*_, _≤_}
 
 -- A text has 1 to so many letters ("The words used").
 abbrev pub maxLength : ℕ
@@ -11,17 +11,21 @@ pub record Sized (n : ℕ) : Type 0 where
   pub some : 1 ≤ n
   pub short : n ≤ maxLength
 
--- The reader hands on at most so many letters, and needs a buffer of that length (refusals 4 and 14).
+-- The reader hands on at most so many letters, and needs a buffer of that length (document 02, E4; refusals 4 and 14).
 abbrev pub maxLetters : ℕ
-maxLetters = 2048
+maxLetters = 4096
 
--- A FASTA input has at most so many bytes (refusal 15).
+-- A FASTA input has at most so many bytes (document 02, E4; refusal 15).
 abbrev pub maxInput : ℕ
-maxInput = 8192
+maxInput = 16384
 
--- The length that the run list of a text of n letters needs ("Places needed").
+-- A text of n letters has at most so many runs (document 02, E4; `RunsTheorem` of `words`).
+abbrev pub maxRuns : ℕ → ℕ
+maxRuns n = n - 1
+
+-- The length that its run list needs: three numbers for each, so none for one letter.
 abbrev pub runListLength : ℕ → ℕ
-runListLength n = 6 * n
+runListLength n = 3 * maxRuns n
 
 -- The length that the work buffer of the runs needs ("Places needed", refusal 5).
 abbrev pub workLength : ℕ → ℕ

@@ -16,7 +16,7 @@ pub enum Reason {
     TextTooLong,
     // 3: the order number is none that the call takes: 0 or 1, in the ranked forms also 2.
     UnknownOrder,
-    // 4: an output buffer is shorter than needed; for the reader, the letters buffer is under 2,048.
+    // 4: an output buffer is shorter than needed; for the reader, the letters buffer is under 4,096.
     ShortOutput,
     // 5: the work buffer is shorter than 2 × n.
     ShortWork,
@@ -36,9 +36,9 @@ pub enum Reason {
     SecondRecord,
     // 13: no letter read.
     NoLetters,
-    // 14: a 2,049th letter.
+    // 14: a 4,097th letter.
     TooManyLetters,
-    // 15: the FASTA input is over 8,192 bytes.
+    // 15: the FASTA input is over 16,384 bytes.
     FileTooLong,
     // 16: a rank table that is to be used hasn't 256 entries.
     WrongTable,

@@ -106,7 +106,7 @@ module _ (ranks x work list : List ℕ) where
   row-ready : Sized (length x) × (runListLength (length x) ≤ length list) × (workLength (length x) ≤ length work) → FindReady (rankRow ranks x) work list
   row-ready known =
       record {
-        small = omega (arith, known .0 .short, row-length ranks x);
+        sized = record { some = omega (arith, known .0 .some, row-length ranks x); short = omega (arith, known .0 .short, row-length ranks x) };
         list-room = omega (arith, known .1, row-length ranks x);
         work-room = omega (arith, known .2, row-length ranks x);
       }

@@ -7,13 +7,13 @@ use native.Mathlib.Omega.{arith}
 use lib.ListN.{length}
 use Rattle.words.specs.Laws.Position.{Agree}
 use Rattle.words.specs.Laws.RunExtent.{Extent, extent-from}
-use Rattle.words.specs.Laws.RunMarks.{endBound, end-below, entry-listed, unlisted, runEntry}
+use Rattle.words.specs.Laws.RunMarks.{ListedEntry, endBound, end-below, entry-listed, unlisted, runEntry}
 use Rattle.words.specs.Laws.SpanLyndon.{letters}
 use Rattle.words.specs.Laws.SuffixOrder.{NextSmaller}
 use Rattle.words.specs.Letters.{rising}
 use Rattle.answer.specs.Content.{Written}
 use Rattle.array.specs.Core.RunExtent.{LeftExtent, AtRoot}
-use Rattle.array.specs.Core.RunPass.{Listed, skipped, listed}
+use Rattle.array.specs.Core.RunPass.{Listed, skipped, listed, RoomAt}
 
 module _ (order : ℕ) (x list : List ℕ) (i j k s count : ℕ) (w : AtRoot x i j k) (left : LeftExtent x i (j - i) s) where
   goes-on : i + (j - i) ≡ j
@@ -49,17 +49,24 @@ module _ (order : ℕ) (x list : List ℕ) (i j k s count : ℕ) (w : AtRoot x i
       let q : j + k < length x = end-below order (length x) (j + k) (omega arith) .0 (z .2) (omega (arith, h)) in
       omega arith)
 
-  -- The run is listed.
-  pub run-found : j - i ≤ i - s + k → ((0 < order) → j + k < length x) → (after : List ℕ) →
-      Written list after (3 * count) (3 * (count + 1)) (s ∷ (j + k - 1) ∷ (j - i) ∷ []) → Listed order x list after i count (count + 1)
-  run-found h early after e =
-      listed (runEntry s (j + k) (j - i))
-      (entry-listed rising (letters 0 x) (length x) (endBound order (length x)) i s (j + k) (j - i)
-      (record {
-        next = next-at;
-        extent = root-extent;
-        twice = omega (arith, goes-on, left .low);
-        last = omega (arith, goes-on, w .short);
-        early = end-below order (length x) (j + k) (w .exact .within) .1 early;
-      }))
-      refl e
+  -- Else i lists the run.
+  module _ (long : j - i ≤ i - s + k) (early : 0 < order → j + k < length x) where
+    lists-run : ListedEntry rising (letters 0 x) (length x) (endBound order (length x)) i (runEntry s (j + k) (j - i))
+    lists-run =
+        entry-listed rising (letters 0 x) (length x) (endBound order (length x)) i s (j + k) (j - i)
+        (record {
+          next = next-at;
+          extent = root-extent;
+          twice = omega (arith, goes-on, left .low);
+          last = omega (arith, goes-on, w .short);
+          early = end-below order (length x) (j + k) (w .exact .within) .1 early;
+        })
+
+    -- There is room for it,
+    pub run-fits : RoomAt order x list count i → 3 * count + 3 ≤ length list
+    run-fits at = at .room (runEntry s (j + k) (j - i)) lists-run
+
+    -- and written, it is listed.
+    pub run-found : (after : List ℕ) → Written list after (3 * count) (3 * (count + 1)) (s ∷ (j + k - 1) ∷ (j - i) ∷ []) →
+        Listed order x list after i count (count + 1)
+    run-found after e = listed (runEntry s (j + k) (j - i)) lists-run refl e

@@ -10,15 +10,14 @@ use Rattle.words.specs.Letters.{rising, falling}
 use Rattle.words.specs.Decided.{decided-rising, decided-falling, decided-order}
 use Rattle.words.specs.Equality.{decided-number-equality}
 use Rattle.words.specs.Runs.{Entry, numbers}
-use Rattle.words.specs.Laws.EachRunOnce.{EachRunOnce, ListsDown, each-run-once, rearranged-run-list}
+use Rattle.words.specs.Laws.EachRunOnce.{EachRunOnce, ListsDown, lists-fewer, each-run-once, rearranged-run-list}
 use Rattle.words.specs.Laws.RunMarks.{endBound}
 use Rattle.words.specs.Laws.SpanLyndon.{letters}
-use Rattle.words.specs.Laws.Runs.{run-list-unique, numbers-length}
+use Rattle.words.specs.Laws.Runs.{run-list-unique, numbers-append, numbers-length}
 use Rattle.words.specs.Compute.LyndonArray.{arrayOf, arrayOf-holds}
 use Rattle.words.specs.Laws.RunSearch.{runsOf-holds}
 use Rattle.words.specs.Laws.Unique.{array-unique}
 use Rattle.words.specs.Laws.OrderedAlike.{OrderedAlike, alike-array}
-use Rattle.words.specs.Laws.ListedAlike.{lists-alike}
 use Rattle.answer.specs.AfterCall.{written}
 use Rattle.answer.specs.ContentLaws.{written-append, written-as, written-whole}
 use Rattle.letters.specs.Ranks.{rankRow}
@@ -30,12 +29,13 @@ use Rattle.array.proofs.Entries.{letters-compared}
 use Rattle.array.specs.Core.RunPass.{Passing, OrderDone, FindReady, RunsFound}
 use Rattle.array.specs.Core.Fill.{AllRestored}
 use Rattle.array.proofs.ArrayWritten.{array-written}
-use Rattle.array.proofs.RunList.{RunsSorted, runs-sorted, numbers-append, sorted-member, member-sorted, sorted-length}
+use Rattle.array.proofs.PassLaws.{falling-lists}
+use Rattle.array.proofs.RunList.{RunsSorted, runs-sorted, sorted-member, member-sorted, sorted-length}
 
 module _ (x : List ℕ) (work work₁ part list list₁ list₂ list₃ : List ℕ) (first count : ℕ)
     (a : OrderDone decided-rising 0 x work work₁ list list₁ 0 first)
     (b : OrderDone decided-falling 1 x (take (length work₁ - length x) (drop (length x) work₁)) part list₁ list₂ first count)
-    (s : list₃ ≡ sortedContent count list₂) (work-fits : 2 * length x ≤ length work) (list-fits : 6 * length x ≤ length list) where
+    (s : list₃ ≡ sortedContent count list₂) (ready : FindReady x work list) where
   once : EachRunOnce x (a .entries ++ b .entries)
   once = each-run-once rising 0 x (letters-compared 0 x) (a .entries) (b .entries) (a .lists) (b .lists)
 
@@ -94,7 +94,7 @@ module _ (x : List ℕ) (work work₁ part list list₁ list₂ list₃ : List �
   both-found : RunsFound x work (take (length x) work₁ ++ (part ++ drop (length work₁ - length x) (drop (length x) work₁))) list list₃ count
   both-found =
       record {
-        few = omega (arith, number, length-append (a .entries) (b .entries), a .lists .size, b .lists .size);
+        few = omega (arith, number, lists-fewer rising 0 x (ready .sized .some) 0 0 (a .entries) (b .entries) (a .lists) (b .lists));
         counted = number ∙ sym (sorted-length sorted) ∙ ap length is-list;
         entries =
             sorted .content ∙
@@ -114,9 +114,7 @@ falling-done x y before after list list′ from count alike w =
           ap (λ (l : List ℕ). written l before)
           (array-unique (alike-array alike (arrayOf decided-rising y) (arrayOf-holds decided-rising y)) (arrayOf-holds decided-falling x));
       entries = w .entries;
-      lists =
-          subst (λ (n : ℕ). ListsDown falling (letters 0 x) n (endBound 1 n) 0 (w .entries)) (sym (alike .size))
-          (lists-alike (alike .there) (alike .back) (w .lists));
+      lists = falling-lists x y 0 (w .entries) alike (w .lists);
       counted = w .counted;
       content = w .content;
     }
@@ -137,7 +135,7 @@ runs-found x y work work₁ part list list₁ list₂ list₃ first count n a b 
     (λ (m : ℕ).
     OrderDone decided-falling 1 x (take (length work₁ - m) (drop m work₁)) part list₁ list₂ first count →
     RunsFound x work (take m work₁ ++ (part ++ drop (length work₁ - m) (drop m work₁))) list list₃ count)
-    (sym size) (λ w. both-found x work work₁ part list list₁ list₂ list₃ first count a w s (ready .work-room) (ready .list-room))
+    (sym size) (λ w. both-found x work work₁ part list list₁ list₂ list₃ first count a w s ready)
     (falling-done x y (take (length work₁ - n) (drop n work₁)) part list₁ list₂ first count alike b)
 
 -- A pass over all positions, with every last place restored.

@@ -37,7 +37,7 @@ runNumbers x = numbers (runList x)
 abbrev pub bothArrays : List ℕ → List ℕ
 bothArrays x = arrayOf decided-rising x ++ arrayOf decided-falling x
 
--- The runs of a text, with the lengths of the work buffer and of the list: checks 1, 2, 4 and 5; the count is the number of runs.
+-- The runs of a text, with the lengths of the work buffer and of the list: checks 1, 2, 4 (document 02, E4) and 5; the count is the number of runs.
 abbrev pub runsAnswer : List ℕ → ℕ → ℕ → Answer
 runsAnswer x work list = runsChecked (length x) list work (acceptedWith (length (runList x)))
 

@@ -3,7 +3,7 @@
 -- Assumes nothing.
 use mathlib.Core.Path.{_≡_, refl, sym, ap, ap₂, _∙_}
 use mathlib.Core.Bool.{true}
-use mathlib.Core.List.{List}
+use mathlib.Core.List.{List, [], _∷_}
 use Prim.Native.Nat.{ℕ, zero, suc, _*_, _<_, _≤_}
 use native.Mathlib.Omega.{arith}
 use lib.ListN.{length, getD, take, drop}
@@ -13,16 +13,18 @@ use Rattle.words.specs.LyndonArray.{IsLyndonArray}
 use Rattle.words.specs.Runs.{IsRunList, numbers}
 use Rattle.words.specs.Compute.LyndonArray.{arrayOf, arrayOf-holds}
 use Rattle.answer.specs.declared.Answer.{Answer}
-use Rattle.answer.specs.Answers.{acceptedWith}
+use Rattle.answer.specs.declared.Reason.the-variants.{ShortOutput}
+use Rattle.answer.specs.Answers.{acceptedWith, refusedFor}
 use Rattle.answer.specs.Limits.{Sized, rankedOrder, tableLength, runListLength, workLength}
 use Rattle.answer.specs.AfterCall.{contentAfter}
 use Rattle.answer.specs.AfterLaws.{written-first, written-rest}
 use Rattle.checks.specs.Checks.{outputChecked, runsChecked, usesTable}
 use Rattle.checks.specs.CheckLaws.{text-passes, table-unused, ordered-text-as, ranked-text-as, ranked-runs-as}
-use Rattle.letters.specs.Ranks.{rankRow, rowIn, directionOf}
+use Rattle.letters.specs.Ranks.{rankBy, rankRow, rowIn, directionOf}
 use Rattle.letters.specs.RankLaws.{row-length, row-in-length, row-checked, identity-row}
 use Rattle.array.specs.Calls.{arrayAnswer, arrayRankedAnswer, arrayIn, runList, runNumbers, bothArrays, runsAnswer, runsRankedAnswer}
-use Rattle.array.specs.Theorems.{arrayAfter, listAfter, workAfter, runs-accepts, runs-listed, runs-written, runs-rest, work-rising, work-falling, work-rest}
+use Rattle.array.specs.Theorems.{arrayAfter, listAfter, workAfter, runs-accepts, runs-listed, runs-short-list, runs-bounded, runs-of-one-letter}
+use Rattle.array.specs.Theorems.{runs-written, runs-rest, work-rising, work-falling, work-rest}
 
 -- What `lyndon_array_ranked` leaves in its buffer, by its contract.
 abbrev pub arrayRankedAfter : ℕ → List ℕ → List ℕ → List ℕ → List ℕ
@@ -121,11 +123,11 @@ module _ (table : List ℕ) (whole : length table ≡ tableLength) (x work list 
         runs-by-rank .2 ∙ ap (λ (y : List ℕ). workAfter y work list) row,
       )
 
+  row-sized : Sized (length x) → Sized (length (rankRow table x))
+  row-sized sized = record { some = omega (arith, sized .some, row-length table x); short = omega (arith, sized .short, row-length table x) }
+
   -- A list and a work buffer that are long enough.
   module _ (sized : Sized (length x)) (list-room : runListLength (length x) ≤ length list) (work-room : workLength (length x) ≤ length work) where
-    row-sized : Sized (length (rankRow table x))
-    row-sized = record { some = omega (arith, sized .some, row-length table x); short = omega (arith, sized .short, row-length table x) }
-
     in-list : runListLength (length (rankRow table x)) ≤ length list
     in-list = omega (arith, row-length table x)
 
@@ -134,29 +136,44 @@ module _ (table : List ℕ) (whole : length table ≡ tableLength) (x work list 
 
     -- No text is refused; the count is the number of runs.
     pub runs-ranked-accepts : runsRankedAnswer table x (length work) (length list) ≡ acceptedWith (length (runList (rankRow table x)))
-    runs-ranked-accepts = runs-by-rank .0 ∙ runs-accepts (rankRow table x) row-sized work list in-list in-work
+    runs-ranked-accepts = runs-by-rank .0 ∙ runs-accepts (rankRow table x) (row-sized sized) work list in-list in-work
 
     -- That list holds every run of the row of ranks once, and nothing else, by start and then by last position.
     pub runs-ranked-listed : IsRunList (rankRow table x) (runList (rankRow table x))
-    runs-ranked-listed = runs-listed (rankRow table x) row-sized work list in-list in-work
+    runs-ranked-listed = runs-listed (rankRow table x) (row-sized sized) work list in-list in-work
 
     -- Its numbers stand in the first places of the list, and the other places hold what they held before.
     pub runs-ranked-written : take (3 * length (runList (rankRow table x))) (listRankedAfter table x work list) ≡ numbers (runList (rankRow table x))
     runs-ranked-written =
-        ap (take (3 * length (runList (rankRow table x)))) (runs-by-rank .1) ∙ runs-written (rankRow table x) row-sized work list in-list in-work
+        ap (take (3 * length (runList (rankRow table x)))) (runs-by-rank .1) ∙ runs-written (rankRow table x) (row-sized sized) work list in-list in-work
 
     pub runs-ranked-rest :
         drop (3 * length (runList (rankRow table x))) (listRankedAfter table x work list) ≡ drop (3 * length (runList (rankRow table x))) list
     runs-ranked-rest =
-        ap (drop (3 * length (runList (rankRow table x)))) (runs-by-rank .1) ∙ runs-rest (rankRow table x) row-sized work list in-list in-work
+        ap (drop (3 * length (runList (rankRow table x)))) (runs-by-rank .1) ∙ runs-rest (rankRow table x) (row-sized sized) work list in-list in-work
 
     -- The first n numbers of the work buffer are the array rising by rank, the next n the one falling by rank; the others are as before.
     pub work-ranked-rising : IsLyndonArray rising (rankRow table x) (take (length (rankRow table x)) (take (workLength (length (rankRow table x))) (workRankedAfter table x work list)))
-    work-ranked-rising = rw (runs-by-rank .2) (work-rising (rankRow table x) row-sized work list in-list in-work)
+    work-ranked-rising = rw (runs-by-rank .2) (work-rising (rankRow table x) (row-sized sized) work list in-list in-work)
 
     pub work-ranked-falling : IsLyndonArray falling (rankRow table x) (drop (length (rankRow table x)) (take (workLength (length (rankRow table x))) (workRankedAfter table x work list)))
-    work-ranked-falling = rw (runs-by-rank .2) (work-falling (rankRow table x) row-sized work list in-list in-work)
+    work-ranked-falling = rw (runs-by-rank .2) (work-falling (rankRow table x) (row-sized sized) work list in-list in-work)
 
     pub work-ranked-rest : drop (workLength (length (rankRow table x))) (workRankedAfter table x work list) ≡ drop (workLength (length (rankRow table x))) work
     work-ranked-rest =
-        ap (drop (workLength (length (rankRow table x)))) (runs-by-rank .2) ∙ work-rest (rankRow table x) row-sized work list in-list in-work
+        ap (drop (workLength (length (rankRow table x)))) (runs-by-rank .2) ∙ work-rest (rankRow table x) (row-sized sized) work list in-list in-work
+
+  -- A list of fewer than 3 × (n − 1) numbers is refused, whatever the work buffer (document 02, E4).
+  pub runs-ranked-short-list : Sized (length x) → length list < runListLength (length x) →
+      runsRankedAnswer table x (length work) (length list) ≡ refusedFor ShortOutput 0
+  runs-ranked-short-list sized short =
+      runs-by-rank .0 ∙ runs-short-list (rankRow table x) (row-sized sized) work list (omega (arith, row-length table x))
+
+-- By rank too the count is below n.
+pub runs-ranked-bounded : (table x : List ℕ) → 0 < length x → length (runList (rankRow table x)) < length x
+runs-ranked-bounded table x some = omega (arith, runs-bounded (rankRow table x) (omega (arith, row-length table x)), row-length table x)
+
+-- One letter needs no list by rank either, and has no run.
+pub runs-ranked-of-one-letter : (table : List ℕ) → length table ≡ tableLength → (a : ℕ) (work : List ℕ) → workLength 1 ≤ length work →
+    runsRankedAnswer table (a ∷ []) (length work) 0 ≡ acceptedWith 0
+runs-ranked-of-one-letter table whole a work room = runs-by-rank table whole (a ∷ []) work [] .0 ∙ runs-of-one-letter (rankBy table a) work room

@@ -1,9 +1,9 @@
 -- What the contracts of the calls say by the published definitions: texts of 1 to 1,048,576 letters are accepted, and what is then in the
 -- buffers. A text is a list of numbers, so this is one theorem for bytes and for 32-bit letters.
 -- Assumes nothing.
-use mathlib.Core.Path.{_≡_}
-use mathlib.Core.List.{List}
-use Prim.Native.Nat.{ℕ, _*_, _≤_}
+use mathlib.Core.Path.{_≡_, ap, _∙_}
+use mathlib.Core.List.{List, [], _∷_}
+use Prim.Native.Nat.{ℕ, _*_, _<_, _≤_}
 use native.Mathlib.Omega.{arith}
 use lib.ListN.{length, take, drop, length-append}
 use lib.Seq.{take-at, drop-at}
@@ -13,13 +13,15 @@ use Rattle.words.specs.Equality.{decided-number-equality}
 use Rattle.words.specs.LyndonArray.{IsLyndonArray}
 use Rattle.words.specs.Runs.{IsRunList, numbers}
 use Rattle.words.specs.Compute.LyndonArray.{arrayOf, arrayOf-holds}
+use Rattle.words.specs.RunsTheorem.{run-list-shorter}
 use Rattle.words.specs.Laws.RunSearch.{runsOf-holds}
 use Rattle.words.specs.Laws.Runs.{numbers-length}
-use Rattle.answer.specs.Answers.{acceptedWith}
+use Rattle.answer.specs.declared.Reason.the-variants.{ShortOutput}
+use Rattle.answer.specs.Answers.{acceptedWith, refusedFor}
 use Rattle.answer.specs.Limits.{runListLength, workLength, Sized}
 use Rattle.answer.specs.AfterCall.{contentAfter}
 use Rattle.answer.specs.AfterLaws.{written-first, written-rest}
-use Rattle.checks.specs.CheckLaws.{ordered-text-passes, runs-passes}
+use Rattle.checks.specs.CheckLaws.{array-passes, ordered-text-passes, output-short, runs-passes}
 use Rattle.array.specs.Calls.{arrayAnswer, runList, runNumbers, bothArrays, runsAnswer}
 
 -- What `lyndon_array`, of either width, leaves in its buffer, by its contract.
@@ -111,3 +113,19 @@ module _
     pub work-rest : drop (workLength (length x)) (workAfter x work list) ≡ drop (workLength (length x)) work
     work-rest =
         written-rest (runsAnswer x (length work) (length list)) (length (runList x)) (workLength (length x)) (bothArrays x) work runs-accepts both-length
+
+-- A list of fewer than 3 × (n − 1) numbers is refused, whatever the work buffer (document 02, E4).
+pub runs-short-list : (x : List ℕ) → Sized (length x) → (work list : List ℕ) → length list < runListLength (length x) →
+    runsAnswer x (length work) (length list) ≡ refusedFor ShortOutput 0
+runs-short-list x sized work list short = array-passes (length x) sized _ ∙ output-short _ (runListLength (length x)) (length list) short
+
+-- The count of runs is below n.
+pub runs-bounded : (x : List ℕ) → 0 < length x → length (runList x) < length x
+runs-bounded x some = run-list-shorter x some (runList x) (runsOf-holds decided-number-equality x)
+
+-- One letter needs no list, and has no run.
+pub runs-of-one-letter : (a : ℕ) (work : List ℕ) → workLength 1 ≤ length work → runsAnswer (a ∷ []) (length work) 0 ≡ acceptedWith 0
+runs-of-one-letter a work room =
+    let one : Sized 1 = record { some = omega arith; short = omega arith } in
+    let none : length (runList (a ∷ [])) ≡ 0 = omega (arith, runs-bounded (a ∷ []) (omega arith)) in
+    runs-passes 1 one _ 0 (length work) (omega arith) room ∙ ap acceptedWith none

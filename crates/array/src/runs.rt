@@ -13,7 +13,7 @@ ghost use lib.ListN.{length};
 ghost use Rattle.answer.specs.Limits.{maxLength};
 ghost use Rattle.answer.specs.Content.{Written};
 ghost use Rattle.array.specs.Core.RunExtent.{StoppedAt, ExtendedTo, LeftExtent, AtRoot};
-ghost use Rattle.array.specs.Core.RunPass.{Listed, VisitReady, Visited, PassReady, OrderDone, FindReady, RunsFound, ReadyWhere};
+ghost use Rattle.array.specs.Core.RunPass.{Listed, RoomAt, VisitReady, Visited, PassReady, OrderDone, FindReady, RunsFound, ReadyWhere};
 ghost use Rattle.array.specs.Calls.{runsAnswer, runsRankedAnswer, runList, runNumbers, bothArrays};
 ghost use Rattle.answer.specs.AfterCall.{contentAfter};
 ghost use Rattle.answer.specs.Answers.{acceptedWith};
@@ -88,7 +88,9 @@ fn list_at(
     end: usize,
     k: usize,
 ) -> usize
-    requires { ⌜ AtRoot (rankRow (now keys) (now text)) i end k × (3 * count + 3 ≤ length (now list)) × (length (rankRow (now keys) (now text)) ≤ maxLength) ⌝ }
+    requires { ⌜ AtRoot (rankRow (now keys) (now text)) i end k ⌝ }
+    requires { ⌜ RoomAt order (rankRow (now keys) (now text)) (now list) count i ⌝ }
+    requires { ⌜ length (rankRow (now keys) (now text)) ≤ maxLength ⌝ }
     ensures content { λ r. ⌜ Listed order (rankRow (now (keys .entry)) (now (text .entry))) (now (list .entry)) (now (list .exit)) i count r ⌝ }
 {
     let p = end - i;
@@ -115,7 +117,7 @@ fn visit(
     count: usize,
     i: usize,
 ) -> usize
-    requires { ⌜ VisitReady (rankRow (now keys) (now text)) (now buf) (now list) count i ⌝ }
+    requires { ⌜ VisitReady order (rankRow (now keys) (now text)) (now buf) (now list) count i ⌝ }
     ensures content { λ r. ⌜ Visited order (rankRow (now (keys .entry)) (now (text .entry))) (now (buf .entry)) (now (buf .exit)) (now (list .entry)) (now (list .exit)) i count r ⌝ }
 {
     let w = bytes::join(text, keys, buf, i);
@@ -141,7 +143,7 @@ fn pass(
     list: &mut [u32],
     from: usize,
 ) -> usize
-    requires { ⌜ PassReady (rankRow (now keys) (now text)) (now buf) (now list) from ⌝ }
+    requires { ⌜ PassReady order (rankRow (now keys) (now text)) (now buf) (now list) from ⌝ }
     ensures content { λ r. ⌜ OrderDone decided-rising order (rankRow (now (keys .entry)) (now (text .entry))) (now (buf .entry)) (now (buf .exit)) (now (list .entry)) (now (list .exit)) from r ⌝ }
 {
     let mut i = text.len();
@@ -184,7 +186,8 @@ fn answered(c: Check, text: &[u8], keys: &[u8; 256], work: &mut [u32], list: &mu
 }
 
 // All runs of a text of bytes: start, last position and period of each, by start and then by last position. Afterwards the work buffer
-// holds the rising Lyndon array of the text and then the falling one. Refused by document 01's checks 1, 2, 4 and 5.
+// holds the rising Lyndon array of the text and then the falling one. Refused by document 01's checks 1, 2, 4 and 5, the list's length being
+// document 02's (E4).
 pub fn runs(text: &[u8], work: &mut [u32], list: &mut [u32]) -> Answer
     ensures answer { λ r. ⌜ r ≡ runsAnswer (now (text .entry)) (length (now (work .entry))) (length (now (list .entry))) ⌝ }
     ensures entries { λ r. ⌜ now (list .exit) ≡ contentAfter r (runNumbers (now (text .entry))) (now (list .entry)) ⌝ }

@@ -177,14 +177,15 @@ fn work(earlier: Check, needed: usize, given: usize) -> Check
     refuse_if(earlier, given < needed, Reason::ShortWork, 0)
 }
 
-// 4, of the run list of n letters; the test is one of quotients, so that no product wraps.
+// 4, of the run list of n letters: three places for each of n − 1 runs. n is compared with the runs that have room and one more, so that
+// neither a product nor a difference can wrap.
 fn run_list(earlier: Check, n: usize, given: usize) -> Check
     ensures check { λ r. ⌜ Adds earlier r (outputChecked (runListLength n) given) ⌝ }
 {
-    output(earlier, n, given / limits::LIST_PLACES)
+    output(earlier, n, given / limits::RUN_PLACES + 1)
 }
 
-// 5, of the work buffer of the runs of n letters; of quotients too.
+// 5, of the work buffer of the runs of n letters; a quotient is compared, so that no product wraps.
 fn run_work(earlier: Check, n: usize, given: usize) -> Check
     ensures check { λ r. ⌜ Adds earlier r (workChecked (workLength n) given) ⌝ }
 {

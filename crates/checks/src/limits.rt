@@ -6,13 +6,13 @@ ghost use Rattle.answer.specs.Limits.{maxLetters};
 pub const MAX_LENGTH: usize = 1_048_576;
 
 // The most letters that the reader hands on, and the length of the buffer that it needs for them.
-pub const MAX_LETTERS: usize = 2_048;
+pub const MAX_LETTERS: usize = 4_096;
 
 // The most bytes of a FASTA input.
-pub const MAX_INPUT: usize = 8_192;
+pub const MAX_INPUT: usize = 16_384;
 
-// The places of the run list for each letter of the text.
-pub const LIST_PLACES: usize = 6;
+// The places of the run list for each run: there are fewer runs than letters.
+pub const RUN_PLACES: usize = 3;
 
 // The places of the work buffer of the runs for each letter.
 pub const WORK_PLACES: usize = 2;

@@ -8,12 +8,13 @@ use native.Mathlib.Omega.{arith}
 use lib.ListN.{getD, replicate}
 use Rattle.answer.specs.declared.Reason.the-variants.{ShortOutput, NoHeader, BadName, UnfitByte, SecondRecord, NoLetters, TooManyLetters, FileTooLong}
 use Rattle.answer.specs.Answers.{acceptedWith, refusedFor}
+use Rattle.answer.specs.Limits.{maxLetters}
 use Rattle.fasta_record.specs.Bytes.{headerMark, lineEnd}
 use Rattle.fasta.specs.Case.{UpToCase, lowered, raised, CaseChanged}
 use Rattle.fasta.specs.Reader.{readerAnswer, lettersOf, nameEndAfter}
 
 -- `>m`, LF, `AC`, CR, LF, LF, `gt`: four letters.
-four-letters : readerAnswer (62 ∷ 109 ∷ 10 ∷ 65 ∷ 67 ∷ 13 ∷ 10 ∷ 10 ∷ 103 ∷ 116 ∷ []) 2048 ≡ acceptedWith 4
+four-letters : readerAnswer (62 ∷ 109 ∷ 10 ∷ 65 ∷ 67 ∷ 13 ∷ 10 ∷ 10 ∷ 103 ∷ 116 ∷ []) maxLetters ≡ acceptedWith 4
 four-letters = refl
 
 -- They are handed on as capitals: `ACGT`.
@@ -26,51 +27,59 @@ ends-of-ranges = refl
 
 -- The name ends at 2.
 name-end :
-    let x : List ℕ = 62 ∷ 109 ∷ 10 ∷ 65 ∷ 67 ∷ 13 ∷ 10 ∷ 10 ∷ 103 ∷ 116 ∷ [] in nameEndAfter (readerAnswer x 2048) x ≡ 2
+    let x : List ℕ = 62 ∷ 109 ∷ 10 ∷ 65 ∷ 67 ∷ 13 ∷ 10 ∷ 10 ∷ 103 ∷ 116 ∷ [] in nameEndAfter (readerAnswer x maxLetters) x ≡ 2
 name-end = refl
 
--- A buffer of 2,047 places.
-short-buffer : readerAnswer [] 2047 ≡ refusedFor ShortOutput 0
+-- A buffer of 4,095 places.
+short-buffer : readerAnswer [] 4095 ≡ refusedFor ShortOutput 0
 short-buffer = refl
 
--- 8,193 bytes.
-long-input : readerAnswer (replicate 8193 headerMark) 2048 ≡ refusedFor FileTooLong 8192
+-- 16,385 bytes,
+long-input : readerAnswer (replicate 16385 headerMark) maxLetters ≡ refusedFor FileTooLong 16384
 long-input = refl
 
+-- and 16,384, which are read on: the name is too long.
+longest-input : readerAnswer (replicate 16384 headerMark) maxLetters ≡ refusedFor BadName 61
+longest-input = refl
+
 -- No byte.
-no-header : readerAnswer [] 2048 ≡ refusedFor NoHeader 0
+no-header : readerAnswer [] maxLetters ≡ refusedFor NoHeader 0
 no-header = refl
 
 -- `>`: no name.
-empty-name : readerAnswer (62 ∷ []) 2048 ≡ refusedFor BadName 1
+empty-name : readerAnswer (62 ∷ []) maxLetters ≡ refusedFor BadName 1
 empty-name = refl
 
 -- `>` and 61 bytes.
-long-name : readerAnswer (headerMark ∷ replicate 61 110) 2048 ≡ refusedFor BadName 61
+long-name : readerAnswer (headerMark ∷ replicate 61 110) maxLetters ≡ refusedFor BadName 61
 long-name = refl
 
 -- `>m` and byte 127.
-foreign-byte-in-name : readerAnswer (62 ∷ 109 ∷ 127 ∷ []) 2048 ≡ refusedFor BadName 2
+foreign-byte-in-name : readerAnswer (62 ∷ 109 ∷ 127 ∷ []) maxLetters ≡ refusedFor BadName 2
 foreign-byte-in-name = refl
 
 -- `>m`, LF, `A`, CR, `C`: a CR that stands before no LF.
-return-inside-line : readerAnswer (62 ∷ 109 ∷ 10 ∷ 65 ∷ 13 ∷ 67 ∷ []) 2048 ≡ refusedFor UnfitByte 4
+return-inside-line : readerAnswer (62 ∷ 109 ∷ 10 ∷ 65 ∷ 13 ∷ 67 ∷ []) maxLetters ≡ refusedFor UnfitByte 4
 return-inside-line = refl
 
 -- `>m`, LF, `A>C`: '>' inside a line.
-mark-inside-line : readerAnswer (62 ∷ 109 ∷ 10 ∷ 65 ∷ 62 ∷ 67 ∷ []) 2048 ≡ refusedFor UnfitByte 4
+mark-inside-line : readerAnswer (62 ∷ 109 ∷ 10 ∷ 65 ∷ 62 ∷ 67 ∷ []) maxLetters ≡ refusedFor UnfitByte 4
 mark-inside-line = refl
 
 -- `>m`, LF, `A`, LF, `>`: '>' at a line's start.
-second-record : readerAnswer (62 ∷ 109 ∷ 10 ∷ 65 ∷ 10 ∷ 62 ∷ []) 2048 ≡ refusedFor SecondRecord 5
+second-record : readerAnswer (62 ∷ 109 ∷ 10 ∷ 65 ∷ 10 ∷ 62 ∷ []) maxLetters ≡ refusedFor SecondRecord 5
 second-record = refl
 
--- `>m`, LF and 2,049 letters.
-letter-too-many : readerAnswer (headerMark ∷ 109 ∷ lineEnd ∷ replicate 2049 65) 2048 ≡ refusedFor TooManyLetters 2051
+-- `>m`, LF and 4,097 letters,
+letter-too-many : readerAnswer (headerMark ∷ 109 ∷ lineEnd ∷ replicate 4097 65) maxLetters ≡ refusedFor TooManyLetters 4099
 letter-too-many = refl
 
+-- and 4,096.
+most-letters : readerAnswer (headerMark ∷ 109 ∷ lineEnd ∷ replicate 4096 65) maxLetters ≡ acceptedWith 4096
+most-letters = refl
+
 -- `>m`, CR, `AC`: the rest of the first line is ignored.
-no-letters : readerAnswer (62 ∷ 109 ∷ 13 ∷ 65 ∷ 67 ∷ []) 2048 ≡ refusedFor NoLetters 5
+no-letters : readerAnswer (62 ∷ 109 ∷ 13 ∷ 65 ∷ 67 ∷ []) maxLetters ≡ refusedFor NoLetters 5
 no-letters = refl
 
 -- `>m`, LF, `aC`

@@ -1,5 +1,5 @@
 -- What the FASTA reader answers, which letters it writes and where the name ends (document 01, "The FASTA reader and the repeat lister"; rows 4
--- and 9 to 15 of its table; document 02, E2). Computed; the rows as conditions on the input stand in Rows, that the two agree in RowTheorems.
+-- and 9 to 15 of its table; document 02, E2 and E4). Computed; the rows as conditions on the input stand in Rows, that the two agree in RowTheorems.
 -- Assumes nothing.
 use mathlib.Core.List.{List}
 use Prim.Native.Nat.{ℕ}

@@ -67,7 +67,7 @@ pub data UnfitAt (x : List ℕ) (p : ℕ) : Type 0 where
 abbrev pub sequenceLetters : List ℕ → ℕ → List ℕ
 sequenceLetters x e = filter letter? (drop (suc e) x)
 
--- The rows of the lines behind e, with reason and position: 11; 12, "'>' at a line's start"; 14, "a 2,049th letter".
+-- The rows of the lines behind e, with reason and position: 11; 12, "'>' at a line's start"; 14, a 4,097th letter (document 02, E4).
 pub data LineRow (x : List ℕ) (e : ℕ) : Reason → ℕ → Type 0 where
   unfit-byte : {p : ℕ} → InLines x e p → UnfitAt x p → LineRow x e UnfitByte p
   second-record : {p : ℕ} → InLines x e p → getD x p 0 ≡ headerMark → LineStart x p → LineRow x e SecondRecord p
@@ -81,7 +81,8 @@ pub data RecordRow (x : List ℕ) (s : ℕ) : Reason → ℕ → Type 0 where
   in-lines : {e p : ℕ} {r : Reason} → HeaderEnds x s e → LineRow x e r p → RecordRow x s r p
   no-letters : {e : ℕ} → HeaderEnds x s e → sequenceLetters x e ≡ [] → RecordRow x s NoLetters (length x)
 
--- The rows of the reader, for a letters buffer of so many places: 4, "letters buffer under 2,048"; 15, "over 8,192 bytes"; those of the record.
+-- The rows of the reader, for a letters buffer of so many places: 4, a letters buffer under 4,096, and 15, over 16,384 bytes (document 02, E4); those of the
+-- record.
 pub data Row (x : List ℕ) (places : ℕ) : Reason → ℕ → Type 0 where
   short-buffer : places < maxLetters → Row x places ShortOutput 0
   long-input : maxInput < length x → Row x places FileTooLong maxInput

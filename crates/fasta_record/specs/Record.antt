@@ -1,4 +1,4 @@
--- How a record of a FASTA input ends and where its name does (document 01, "The FASTA reader and the repeat lister"; rows 9 to 12 and 14 of its table).
+-- How a record of a FASTA input ends and where its name does (document 01, "The FASTA reader and the repeat lister"; rows 9 to 12 and 14 of its table; document 02, E4).
 -- Assumes nothing.
 use mathlib.Core.Bool.{false, cond}
 use mathlib.Core.List.{List}

@@ -1,13 +1,9 @@
 -- How long what the lister prints can be.
 -- Assumes nothing.
-use Prim.Native.Nat.{ℕ, _*_, _/_}
-use Rattle.answer.specs.Limits.{maxLetters, runListLength}
+use Prim.Native.Nat.{ℕ, _*_}
+use Rattle.answer.specs.Limits.{maxLetters, maxRuns}
 use Rattle.bed.specs.Limits.{maxLine}
 
--- The most runs that a run list of the reader's letters can hold.
-abbrev pub maxRuns : ℕ
-maxRuns = runListLength maxLetters / 3
-
--- The most that is printed for an input.
+-- What is printed for an input is not longer: a line for each run.
 abbrev pub maxListing : ℕ
-maxListing = maxLine * maxRuns
+maxListing = maxLine * maxRuns maxLetters

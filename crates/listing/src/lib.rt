@@ -17,19 +17,22 @@ use array::runs::runs;
 use bed::MAX_LINE;
 use bed::write_lines;
 use bed::write_refusal;
-use checks::limits::LIST_PLACES;
 use checks::limits::MAX_LETTERS;
+use checks::limits::RUN_PLACES;
 use checks::limits::WORK_PLACES;
+
+// The reader's letters have no more runs than this: there are fewer than letters.
+const MAX_RUNS: usize = MAX_LETTERS - 1;
 
 // The lengths of the buffers for the reader's letters, for the run call's work and for its list.
 const LETTERS: usize = MAX_LETTERS;
 
 const WORK: usize = WORK_PLACES * LETTERS;
 
-const RUNS: usize = LIST_PLACES * LETTERS;
+const RUNS: usize = RUN_PLACES * MAX_RUNS;
 
-// The most bytes that are printed for an input: a line for each run that the list can hold.
-pub const MAX_LISTING: usize = MAX_LINE * (RUNS / 3);
+// No more bytes are printed for an input: a line for each run.
+pub const MAX_LISTING: usize = MAX_LINE * MAX_RUNS;
 
 // Seeks the runs of the letters of a record, and writes their lines under its name at the start of `out`.
 fn write_record(

@@ -13,7 +13,7 @@ use listing::MAX_LISTING;
 // One byte over the most that the reader accepts: whatever follows changes nothing (`listing-first`).
 const INPUT: usize = MAX_INPUT + 1;
 
-// The most bytes that are printed.
+// No more bytes are printed.
 const OUTPUT: usize = MAX_LISTING;
 
 // What reading came to: so many bytes, to the end of the input or of the buffer; or a read failed.

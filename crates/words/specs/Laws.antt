@@ -32,8 +32,6 @@ pub mod RunExtent
 pub mod RunListing
 pub mod RunOrders
 pub mod RunMarks
-pub mod EachRunOnce
-pub mod ListedAlike
 pub mod ValidArray
 pub mod Repetition
 pub mod LowestSuffix
@@ -48,3 +46,6 @@ pub mod ArrayFactors
 pub mod ArrayForest
 pub mod Existence
 pub mod RunExistence
+pub mod RunCount
+pub mod EachRunOnce
+pub mod ListedAlike

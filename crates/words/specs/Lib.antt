@@ -11,6 +11,7 @@ pub mod CutTree
 pub mod RightForest
 pub mod LeftForest
 pub mod Runs
+pub mod Different
 pub mod ValidArray
 pub mod ArrayForest
 pub mod ArrayFactors
@@ -20,3 +21,4 @@ pub mod Compute
 pub mod ExactlyOne
 pub mod Existence
 pub mod ArrayTheorems
+pub mod RunsTheorem

@@ -146,6 +146,9 @@ pub fn runs(text: &[u8], work: &mut [u32], list: &mut [u32]) -> Result<usize, Er
     kept(text, || result(ffi::runs(text, work, list)))
 }
 
+/// A call of the runs: text, work buffer, list.
+pub type RunsCall = fn(&[u8], &mut [u32], &mut [u32]) -> Result<usize, Error>;
+
 /// A ranked call that writes one buffer and counts no comparisons: text, order number, table, buffer.
 pub type RankedCall = fn(&[u8], u32, &[u8], &mut [u32]) -> Result<usize, Error>;
 
@@ -227,6 +230,20 @@ impl Numbers {
         }
         bytes
     }
+}
+
+/// All texts of n letters over an alphabet.
+pub fn all_texts(alphabet: &[u8], n: usize) -> impl Iterator<Item = Vec<u8>> + '_ {
+    let k = alphabet.len();
+    (0..k.pow(n as u32)).map(move |mut number| {
+        (0..n)
+            .map(|_| {
+                let letter = alphabet[number % k];
+                number /= k;
+                letter
+            })
+            .collect()
+    })
 }
 
 /// What a ranked call is given.

@@ -20,6 +20,15 @@ fn refused<T, C>(number: u32, position: usize) -> Expected<T, C> {
 
 pub const MAX_LENGTH: usize = 1_048_576;
 
+/// The most letters that the reader hands on, and the length of its buffer; the most bytes of its input (document 02, E4).
+pub const MAX_LETTERS: usize = 4_096;
+pub const MAX_INPUT: usize = 16_384;
+
+/// The numbers that the run list of n letters needs: three for each of n − 1 runs (document 02, E4).
+pub fn list_length(n: usize) -> usize {
+    3 * n.saturating_sub(1)
+}
+
 // Words
 
 /// Letters compare by number in order 0, the other way in order 1.
@@ -220,11 +229,11 @@ fn header(input: &[u8]) -> Result<usize, usize> {
 }
 
 pub fn read_fasta(input: &[u8], places: usize) -> Expected<u8> {
-    if places < 2048 {
+    if places < MAX_LETTERS {
         return refused(4, 0);
     }
-    if input.len() > 8192 {
-        return refused(15, 8192);
+    if input.len() > MAX_INPUT {
+        return refused(15, MAX_INPUT);
     }
     if input.first() != Some(&b'>') {
         return refused(9, 0);
@@ -239,7 +248,7 @@ pub fn read_fasta(input: &[u8], places: usize) -> Expected<u8> {
             b'\n' => {}
             b'\r' if input.get(i + 1) == Some(&b'\n') => {}
             b'>' if input[i - 1] == b'\n' => return refused(12, i),
-            b'A'..=b'Z' | b'a'..=b'z' if letters.len() == 2048 => return refused(14, i),
+            b'A'..=b'Z' | b'a'..=b'z' if letters.len() == MAX_LETTERS => return refused(14, i),
             b'A'..=b'Z' => letters.push(input[i]),
             b'a'..=b'z' => letters.push(input[i] - b'a' + b'A'),
             _ => return refused(11, i),
@@ -253,7 +262,7 @@ pub fn read_fasta(input: &[u8], places: usize) -> Expected<u8> {
 
 /// What the lister prints.
 pub fn listing(input: &[u8], runs: impl Fn(&[u8]) -> Vec<u32>) -> Vec<u8> {
-    match read_fasta(input, 2048) {
+    match read_fasta(input, MAX_LETTERS) {
         Refused { number, position } => format!("refused {number} at {position}\n").into_bytes(),
         Accepted { written, .. } => {
             let end = input[1..].iter().position(|b| b" \t\r\n".contains(b)).map_or(input.len(), |i| i + 1);
@@ -298,7 +307,7 @@ fn outputs(n: usize, places: &[usize]) -> Faults {
 }
 
 fn run_buffers(n: usize, work: usize, list: usize) -> Faults {
-    vec![(list < 6 * n, 4), (work < 2 * n, 5)]
+    vec![(list < list_length(n), 4), (work < 2 * n, 5)]
 }
 
 // What an accepted call answers and writes

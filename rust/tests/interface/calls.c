@@ -8,8 +8,10 @@
 /* What no call leaves by chance. */
 #define MARK 0xa5a5a5a5u
 #define PLACES 64
+/* The places that the reader asks for. */
+#define LETTERS 4096
 
-static uint8_t text[PLACES], text_before[PLACES], letters[4096], ranks[256], ranks_before[256];
+static uint8_t text[PLACES], text_before[PLACES], letters[LETTERS + 4], ranks[256], ranks_before[256];
 static uint32_t numbers[PLACES], numbers_before[PLACES], first[PLACES], second[PLACES];
 static unsigned calls;
 
@@ -154,6 +156,27 @@ static void of_a_text(void) {
     holds(second, runs, 9);
 }
 
+/* A list of exactly the places needed, and one less; for one letter none, and no pointer. */
+static void run_lists(void) {
+    static const uint32_t ones[] = {1, 1}, runs[] = {0, 1, 1, 0, 5, 3, 3, 4, 1};
+    start_sample();
+    answered(lyndon_runs(text, 6, first, PLACES, second, 14), 4, 0);
+    answered(lyndon_runs_ranked(text, 6, ranks, 256, first, PLACES, second, 14), 4, 0);
+    holds(first, NULL, 0);
+    holds(second, NULL, 0);
+    answered(lyndon_runs(text, 6, first, PLACES, second, 15), 0, 3);
+    holds(second, runs, 9);
+    start_sample();
+    answered(lyndon_runs_ranked(text, 6, ranks, 256, first, PLACES, second, 15), 0, 3);
+    holds(second, runs, 9);
+    start_sample();
+    answered(lyndon_runs(text, 1, first, PLACES, NULL, 0), 0, 0);
+    holds(first, ones, 2);
+    start_sample();
+    answered(lyndon_runs_ranked(text, 1, ranks, 256, first, PLACES, NULL, 0), 0, 0);
+    holds(first, ones, 2);
+}
+
 /* The ranked calls on two texts that have one answer: by rank the first is a text of two letters, b before a, as the second is in falling
  * order, with no table. */
 static void of_ranked_texts(void) {
@@ -224,10 +247,12 @@ static void forests_and_texts(void) {
 static void of_a_record(void) {
     static const char record[] = ">m1 a name\nAC\r\ngt\n", unfit[] = ">m1\nAC-GT\n";
     start_text(record);
-    answered(lyndon_read_fasta(text, sizeof record - 1, letters, 2048), 0, 4);
+    answered(lyndon_read_fasta(text, sizeof record - 1, letters, LETTERS), 0, 4);
     if (memcmp(letters, "ACGT", 4) != 0 || letters[4] != 0xa5) fail("the letters are not those of the record");
+    start_text(record);
+    answered(lyndon_read_fasta(text, sizeof record - 1, letters, LETTERS - 1), 4, 0);
     start_text(unfit);
-    answered(lyndon_read_fasta(text, sizeof unfit - 1, letters, 2048), 11, 6);
+    answered(lyndon_read_fasta(text, sizeof unfit - 1, letters, LETTERS), 11, 6);
     if (letters[0] != 0xa5) fail("a refusal has written letters");
 }
 
@@ -235,6 +260,7 @@ int main(void) {
     of_nothing();
     into_nothing();
     of_a_text();
+    run_lists();
     of_ranked_texts();
     factors_and_comparisons();
     forests_and_texts();

@@ -3,7 +3,7 @@
 -- Assumes nothing.
 use mathlib.Core.Path.{_≡_}
 use mathlib.Core.List.{List, [], _∷_}
-use Prim.Native.Nat.{ℕ, _+_, _≤_, _*_}
+use Prim.Native.Nat.{ℕ, _+_, _<_, _≤_, _*_}
 use lib.ListN.{length}
 use Rattle.words.specs.Compute.LyndonArray.{arrayOf}
 use Rattle.words.specs.Laws.EachRunOnce.{ListsDown}
@@ -12,7 +12,7 @@ use Rattle.words.specs.Laws.SpanLyndon.{letters}
 use Rattle.words.specs.Letters.{Letters, rising}
 use Rattle.words.specs.Decided.{Decided}
 use Rattle.words.specs.Runs.{Entry, numbers}
-use Rattle.answer.specs.Limits.{maxLength, runListLength, workLength}
+use Rattle.answer.specs.Limits.{Sized, maxLength, runListLength, workLength}
 use Rattle.answer.specs.AfterCall.{written}
 use Rattle.answer.specs.Content.{Kept, From, Written}
 use Rattle.checks.specs.declared.Check.{Check}
@@ -29,10 +29,14 @@ pub data Listed (order : ℕ) (x before after : List ℕ) (i count r : ℕ) : Ty
   listed : (e : Entry) → ListedEntry rising (letters 0 x) (length x) (endBound order (length x)) i e → r ≡ count + 1 →
       Written before after (3 * count) (3 * r) (numbers (e ∷ [])) → Listed order x before after i count r
 
--- What visiting position i asks for: joining, and room for one entry more.
-pub record VisitReady (x buf list : List ℕ) (count i : ℕ) : Type 0 where
+-- Room for the entry that position i lists, where it lists one.
+pub record RoomAt (order : ℕ) (x list : List ℕ) (count i : ℕ) : Type 0 where
+  pub room : (e : Entry) → ListedEntry rising (letters 0 x) (length x) (endBound order (length x)) i e → 3 * count + 3 ≤ length list
+
+-- What visiting position i asks for: joining, and that room.
+pub record VisitReady (order : ℕ) (x buf list : List ℕ) (count i : ℕ) : Type 0 where
   pub join : JoinReady 0 x buf i
-  pub room : 3 * count + 3 ≤ length list
+  pub fits : RoomAt order x list count i
 
 -- Position i has been visited.
 pub record Visited (order : ℕ) (x before after list list′ : List ℕ) (i count r : ℕ) : Type 0 where
@@ -40,11 +44,15 @@ pub record Visited (order : ℕ) (x before after list list′ : List ℕ) (i cou
   pub others : Kept (From (length x)) before after
   pub entry : Listed order x list list′ i count r
 
--- What a pass asks for: room for the array, and for an entry of each position.
-pub record PassReady (x buf list : List ℕ) (from : ℕ) : Type 0 where
-  pub fits : length x ≤ length buf
+-- Room, from entry `from` on, for what the positions from i on list, whatever i is.
+pub record RoomFrom (order : ℕ) (x list : List ℕ) (from : ℕ) : Type 0 where
+  pub room : (i : ℕ) (rs : List Entry) → ListsDown rising (letters 0 x) (length x) (endBound order (length x)) i rs → 3 * (from + length rs) ≤ length list
+
+-- What a pass asks for: room for the array, and for what it lists.
+pub record PassReady (order : ℕ) (x buf list : List ℕ) (from : ℕ) : Type 0 where
+  pub array-fits : length x ≤ length buf
   pub small : length x ≤ maxLength
-  pub room : 3 * from + 3 * length x ≤ length list
+  pub entries-fit : RoomFrom order x list from
 
 -- The positions from i on have been visited; their entries stand in the list from entry `from` on.
 pub record Passing (order : ℕ) (x before after list list′ : List ℕ) (from i count : ℕ) : Type 0 where
@@ -64,14 +72,14 @@ pub record OrderDone {O : Letters {0, 0} ℕ} (D : Decided O) (order : ℕ) (x b
 
 -- What both orders ask for.
 pub record FindReady (x work list : List ℕ) : Type 0 where
-  pub small : length x ≤ maxLength
+  pub sized : Sized (length x)
   pub list-room : runListLength (length x) ≤ length list
   pub work-room : workLength (length x) ≤ length work
 
 -- Both orders are done, and the runs are sorted.
 pub record RunsFound (x before after list list′ : List ℕ) (count : ℕ) : Type 0 where
   pub counted : count ≡ length (runList x)
-  pub few : count ≤ length x + length x
+  pub few : count < length x
   pub entries : list′ ≡ written (runNumbers x) list
   pub arrays : after ≡ written (bothArrays x) before
 

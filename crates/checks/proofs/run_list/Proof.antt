@@ -1,20 +1,18 @@
--- `checks::run_list` meets its contract: the quotient is under n exactly where the whole is under 6 × n.
+-- `checks::run_list` meets its contract: the quotient and one are under n exactly where the whole is under 3 × (n − 1).
 -- Assumes nothing.
-use Prim.Native.Nat.{_*_, _/_}
-use native.Mathlib.Omega.{arith}
-use Rattle.answer.specs.declared.Reason.the-variants.{ShortOutput}
-use Rattle.checks.proofs.Quotients.{fails-alike}
+use Rattle.checks.proofs.Quotients.{list-adds}
 use borrow.Author.Needs.{needs}
 use Rattle.checks.proofs.run_list.Statement.{statement}
 use Rattle.checks.proofs.run_list.Tie as tie
+
+add-output : tie.Need-add-output
+add-output c = search needs
 
 output-requires : tie.Need-output-requires
 output-requires c κs = search needs
 
 returns : tie.Need-returns
-returns c =
-    let args = c .before .args in
-    fails-alike ShortOutput 0 (args .given / 6) (args .n) (args .given) (6 * args .n) (λ h. omega arith) (λ h. omega arith) (c .output .ensures)
+returns c = search list-adds
 
 pub run-list-spec : {M : Type 1} → statement M
-run-list-spec = tie.close (tie.spec output-requires returns)
+run-list-spec = tie.close (tie.spec add-output output-requires returns)

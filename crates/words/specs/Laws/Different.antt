@@ -7,11 +7,7 @@ use Prim.Native.Nat.{ℕ, zero, suc, _<_, _≤_}
 use native.Mathlib.Omega.{arith}
 use native.Mathlib.Decide.{ℕ-discrete}
 use lib.ListN.{length}
-
--- No element stands twice.
-abbrev pub Different {ℓ} : {B : Type ℓ} → List B → Type ℓ
-Different [] = Unit {ℓ}
-Different (b ∷ bs) = (¬ List·Memᴰ b bs) × Different bs
+use Rattle.words.specs.Different.{Different}
 
 module _ {ℓ} {B : Type ℓ} where
   -- Lists of different elements with none in common, joined.

@@ -4,19 +4,21 @@
 use mathlib.Core.Path.{_≡_, refl, sym, subst}
 use mathlib.Core.Logic.{_⊎_, inl, inr}
 use mathlib.Core.List.{List, [], _∷_, _++_, List·Memᴰ, List·Memᴰ·head, List·Memᴰ·tail, List·Memᴰ·not-nil, List·Memᴰ·append-cases, List·Memᴰ·eq-of-singleton, Memᴰ·append-left, Memᴰ·append-right}
-use Prim.Native.Nat.{ℕ, suc, _+_, _<_, _≤_}
+use Prim.Native.Nat.{ℕ, suc, _<_, _≤_}
 use native.Mathlib.Omega.{arith}
 use native.Mathlib.Decide.{decLt, ℕ-discrete}
-use lib.ListN.{length, length-append}
+use lib.ListN.{length}
 use Rattle.words.specs.Letters.{Letters, reversed}
 use Rattle.words.specs.Runs.{Run, Entry, Earlier, Sorted, IsRun, IsRunList}
 use Rattle.words.specs.Laws.SpanLyndon.{letters}
 use Rattle.words.specs.Laws.Compared.{AllCompared}
 use Rattle.words.specs.Laws.Runs.{run-period-unique, NotLater, InOrder, entry-equal}
-use Rattle.words.specs.Laws.Different.{Different, different-append, different-snoc, different-rearranged}
+use Rattle.words.specs.Different.{Different}
+use Rattle.words.specs.Laws.Different.{different-append, different-snoc, different-rearranged}
 use Rattle.words.specs.Laws.RunListing.{listed-once}
 use Rattle.words.specs.Laws.RunOrders.{listed-one-order}
-use Rattle.words.specs.Laws.RunMarks.{ListedEntry, listed-entry-unique, listed-is-run, RunMark, run-mark, runs-fewer}
+use Rattle.words.specs.Laws.RunMarks.{ListedEntry, listed-entry-unique, listed-is-run, RunMark, run-mark}
+use Rattle.words.specs.Laws.RunCount.{runs-fewer}
 
 -- A position from i on lists the entry r.
 pub record ListedFrom {ℓ κ} {A : Type ℓ} (O : Letters {ℓ, κ} A) (x : ℕ → A) (n bound i : ℕ) (r : Entry) : Type (ℓ ⊔ κ) where
@@ -29,7 +31,6 @@ pub record ListsDown {ℓ κ} {A : Type ℓ} (O : Letters {ℓ, κ} A) (x : ℕ 
   pub sound : (r : Entry) → List·Memᴰ r rs → ListedFrom O x n bound i r
   pub complete : (r : Entry) → ListedFrom O x n bound i r → List·Memᴰ r rs
   pub different : Different rs
-  pub size : length rs + i ≤ n
 
 -- rs holds every run of x, nothing else, and nothing twice.
 pub record EachRunOnce {ℓ} {A : Type ℓ} (x : List A) (rs : List Entry) : Type ℓ where
@@ -45,7 +46,6 @@ module _ {ℓ κ} {A : Type ℓ} (O : Letters {ℓ, κ} A) (x : ℕ → A) (n bo
         sound = λ r m. absurd (List·Memᴰ·not-nil m);
         complete = λ r w. absurd (omega (arith, w .low, w .listed .next .after, w .listed .next .inside));
         different = tt;
-        size = omega arith;
       }
 
   lower : (i : ℕ) (r : Entry) → ListedFrom O x n bound (suc i) r → ListedFrom O x n bound i r
@@ -67,7 +67,6 @@ module _ {ℓ κ} {A : Type ℓ} (O : Letters {ℓ, κ} A) (x : ℕ → A) (n bo
         sound = λ r m. lower i r (h .sound r m);
         complete = λ r w. go r (at-or-after i r w);
         different = h .different;
-        size = omega (arith, h .size);
       }
     where
       go : (r : Entry) → ListedEntry O x n bound i r ⊎ ListedFrom O x n bound (suc i) r → List·Memᴰ r rs
@@ -82,7 +81,6 @@ module _ {ℓ κ} {A : Type ℓ} (O : Letters {ℓ, κ} A) (x : ℕ → A) (n bo
         sound = λ r m. from r (List·Memᴰ·append-cases rs m);
         complete = λ r w. into r (at-or-after i r w);
         different = different-snoc rs t (h .different) apart;
-        size = omega (arith, length-append rs (t ∷ []), h .size);
       }
     where
       apart : ¬ List·Memᴰ t rs
@@ -128,7 +126,7 @@ module _ {ℓ κ} {A : Type ℓ} (O : Letters {ℓ, κ} A) (z : A) (x : List A) 
   pub lists-fewer : 0 < length x → (i k : ℕ) (rs ts : List Entry) →
       ListsDown O (letters z x) (length x) (suc (length x)) i rs → ListsDown (reversed O) (letters z x) (length x) (length x) k ts →
       length (rs ++ ts) < length x
-  lists-fewer pos i k rs ts h g = runs-fewer O z x pos (rs ++ ts) (lists-different i k rs ts h g) (lists-sound i k rs ts h g)
+  lists-fewer pos i k rs ts h g = runs-fewer x pos (rs ++ ts) (lists-different i k rs ts h g) (lists-sound i k rs ts h g)
 
   -- Both passes together hold every run once.
   pub each-run-once : AllCompared O (letters z x) (length x) → (rs ts : List Entry) →

@@ -1,6 +1,6 @@
 -- What a position lists depends on how the letters compare, and on nothing else about them.
 -- Assumes nothing.
-use Prim.Native.Nat.{ℕ, suc, _+_, _<_, _≤_}
+use Prim.Native.Nat.{ℕ, _+_, _≤_}
 use mathlib.Core.List.{List}
 use native.Mathlib.Omega.{arith}
 use Rattle.words.specs.Letters.{Letters}
@@ -61,5 +61,4 @@ lists-alike there back w =
       sound = λ r m. from-carries there back (w .sound r m);
       complete = λ r l. w .complete r (from-carries back there l);
       different = w .different;
-      size = w .size;
     }

@@ -93,14 +93,22 @@ module _ {ℓ} {A : Type ℓ} (x : List A) (decided : (i j : ℕ) → i < length
             );
       }
 
-  -- Where it is decided which letters of a text are equal, it has a run list.
+  -- Where it is decided which letters of a text are equal, numbers may stand for them,
+  pub letters-numbered : (y : List ℕ) × SameEqualities x y
+  letters-numbered = (names, names-same)
+
+  -- and it has a run list.
   pub decided-run-list : (rs : List Entry) × IsRunList x rs
   decided-run-list =
       (runsOf decided-number-equality names, run-list-carried (same-equalities-sym names-same) (runsOf-holds decided-number-equality names))
 
--- That a text has a run list cannot be refuted.
-pub run-list-irrefutable {ℓ} : {A : Type ℓ} (x : List A) → ¬ ¬ ((rs : List Entry) × IsRunList x rs)
-run-list-irrefutable x never =
+-- That it is decided cannot be refuted.
+pub equalities-irrefutable {ℓ} : {A : Type ℓ} (x : List A) → ¬ ¬ ((i j : ℕ) → i < length x → j < length x → Dec (SameLetter x i j))
+equalities-irrefutable x never =
     all-irrefutable (λ i. (j : ℕ) → j < length x → Dec (SameLetter x i j)) (length x)
     (λ i h. all-irrefutable (λ j. Dec (SameLetter x i j)) (length x) (λ j l undecided. undecided (no (λ e. undecided (yes e)))))
-    (λ q. never (decided-run-list x (λ i j h l. q i h j l)))
+    (λ q. never (λ i j h l. q i h j l))
+
+-- That a text has a run list cannot be refuted.
+pub run-list-irrefutable {ℓ} : {A : Type ℓ} (x : List A) → ¬ ¬ ((rs : List Entry) × IsRunList x rs)
+run-list-irrefutable x never = equalities-irrefutable x (λ decided. never (decided-run-list x decided))

@@ -1,19 +1,20 @@
--- Every run has a mark of its own, the position that lists it, so that different runs are fewer than the letters of the text.
+-- Every run has a mark of its own, the position that lists it, so that different runs are fewer than the letters of the text, where these are
+-- compared.
 -- Assumes nothing.
 use mathlib.Core.Path.{_≡_, subst}
 use mathlib.Core.Logic.{_⊎_, inl, inr, _↔_}
 use mathlib.Core.List.{List, List·Memᴰ}
 use Prim.Native.Nat.{ℕ, zero, suc, _+_, _-_, _<_, _≤_}
 use native.Mathlib.Omega.{arith}
-use native.Mathlib.Decide.{decLt}
 use lib.ListN.{length}
 use Rattle.words.specs.Letters.{Letters, reversed}
 use Rattle.words.specs.Laws.Runs.{entry-equal}
 use Rattle.words.specs.Runs.{Entry, IsRun}
 use Rattle.words.specs.Laws.SpanLyndon.{letters}
 use Rattle.words.specs.Laws.SuffixOrder.{NextSmaller}
-use Rattle.words.specs.Laws.Compared.{AllCompared, all-compared-irrefutable}
-use Rattle.words.specs.Laws.Different.{Different, marked-fewer}
+use Rattle.words.specs.Laws.Compared.{AllCompared}
+use Rattle.words.specs.Different.{Different}
+use Rattle.words.specs.Laws.Different.{marked-fewer}
 use Rattle.words.specs.Laws.Periods.{run-span, span-run}
 use Rattle.words.specs.Laws.RunExtent.{Extent}
 use Rattle.words.specs.Laws.RunListing.{ListedAt, measure-unique, listed-run, listed-unique, listed-after-start}
@@ -106,13 +107,8 @@ module _ {ℓ κ} {A : Type ℓ} (O : Letters {ℓ, κ} A) (z : A) (x : List A) 
       listed-after-start (reversed O) (letters z x) (length x) (length x) i (r .start) (suc (r .last)) (r .period) h in
       (omega arith, omega (arith, h .next .after, h .next .inside))
 
-  -- The runs theorem: different runs of a text are fewer than its letters.
-  pub runs-fewer : 0 < length x → (rs : List Entry) → Different rs → ((r : Entry) → List·Memᴰ r rs → IsRun x r) → length rs < length x
-  runs-fewer pos rs h f = go (decLt (length rs) (length x))
-    where
-      go : Dec (length rs < length x) → length rs < length x
-      go (yes l) = l
-      go (no l) =
-          absurd
-          (all-compared-irrefutable O (letters z x) (length x)
-          (λ compared. l (marked-fewer RunMark run-mark-unique (length x) pos run-mark-range rs h (λ r m. run-mark compared r (f r m)))))
+  -- Different runs of a text whose letters are compared are fewer than its letters.
+  pub compared-fewer : AllCompared O (letters z x) (length x) → 0 < length x → (rs : List Entry) → Different rs →
+      ((r : Entry) → List·Memᴰ r rs → IsRun x r) → length rs < length x
+  compared-fewer compared pos rs h f =
+      marked-fewer RunMark run-mark-unique (length x) pos run-mark-range rs h (λ r m. run-mark compared r (f r m))

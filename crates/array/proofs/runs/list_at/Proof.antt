@@ -4,11 +4,11 @@ use mathlib.Core.Path.{_≡_, _∙_}
 use mathlib.Core.List.{List}
 use native.Mathlib.Omega.{arith}
 use mathlib.Core.Logic.{⊎-elim}
-use Prim.Native.Nat.{ℕ, _+_, _<_}
+use Prim.Native.Nat.{ℕ, _+_, _*_, _<_, _≤_}
 use lib.ListN.{length}
 use Rattle.letters.specs.Ranks.{rankRow}
 use Rattle.array.proofs.RankedLetters.{row-size}
-use Rattle.array.proofs.RunEntry.{too-short, at-text-end, run-found}
+use Rattle.array.proofs.RunEntry.{too-short, at-text-end, run-fits, run-found}
 use borrow.Author.Needs.{needs}
 use Rattle.array.proofs.runs.list_at.Statement.{statement}
 use Rattle.array.proofs.runs.list_at.Tie as tie
@@ -19,6 +19,16 @@ row c = rankRow (c .args .keys .now) (c .args .text .now)
 
 size : (c : tie.Start) → length (c .args .text .now) ≡ length (row c)
 size c = row-size (c .args .keys .now) (c .args .text .now)
+
+-- The call, from the moment when its tests are behind it.
+abbrev start : tie.Joined2 → tie.Start
+start c = c .before .before .before .before .before
+
+-- In the second order the run then ends before the text does.
+early : (c : tie.Joined2) → let at = start c in 0 < at .args .order → at .args .end + at .args .k < length (row at)
+early c h =
+    let at = start c in
+    ⊎-elim (λ r. omega (arith, r .1 .left, at .pre .0 .exact .within, size at)) (λ r. absurd (omega (arith, h, r .left))) (c .if2 .came)
 
 sub-p : tie.Need-sub-p
 sub-p c = search needs
@@ -52,8 +62,16 @@ add-write-entry c = search needs
 sub-write-entry : tie.Need-sub-write-entry
 sub-write-entry c = search needs
 
+-- The run has its place in the list: it is known to be listed before it is written.
+room : (c : tie.Joined2) → let at = start c in 3 * at .args .count + 3 ≤ length (at .args .list .now)
+room c =
+    let before-end = early c in
+    search run-fits
+
 write-entry-requires : tie.Need-write-entry-requires
-write-entry-requires c κs = search needs
+write-entry-requires c κs =
+    let fits = room (c .before) in
+    search needs
 
 add-result : tie.Need-add-result
 add-result c = search needs
@@ -63,10 +81,7 @@ same-length c = search needs
 
 returns-3 : tie.Need-returns-3
 returns-3 c =
-    let at-tests = c .before .before .before .before in
-    let at = at-tests .before .before .before .before .before in
-    let early : 0 < at .args .order → at .args .end + at .args .k < length (row at) =
-    λ h. ⊎-elim (λ r. omega (arith, r .1 .left, at .pre .0 .exact .within, size at)) (λ r. absurd (omega (arith, h, r .left))) (at-tests .if2 .came) in
+    let before-end = early (c .before .before .before .before) in
     search run-found
 
 pub list-at-spec : {M : Type 1} → statement M

@@ -24,7 +24,7 @@ loop-holds : tie.Need-loop-holds Inv-loop μ-loop
 loop-holds c =
     let args = c .before .before .before .args in
     let size = row-size (args .keys .now) (args .text .now) in
-    (omega (arith, size), passing-start _ _ _ _ _ _ (omega arith) size)
+    (omega (arith, size), passing-start _ _ _ _ _ _ (c .before .before .before .pre .entries-fit) size)
 
 sub-i : tie.Need-sub-i Inv-loop μ-loop
 sub-i c = search needs
