@@ -1,4 +1,5 @@
 # lib: the static library, proved and ready to link, beside include/lyndon.h. example: a C program that uses it.
+# agreement: the measure of how far two words agree, by itself, for the benchmark and the tests.
 # bench: the benchmark. beside: the library beside an older one, OLD=.../liblyndon.a, all calls or those whose names begin with a word of
 # CALLS. test: all tests.
 CFLAGS = -O3 -Wall -Wextra -Iinclude -Ibench
@@ -6,22 +7,28 @@ BENCH = bench/bench.c bench/families.c bench/reference.c bench/reference_factors
 	bench/reference_reader.c bench/suffix_array.c
 DIVSUFSORT := $(shell $(CC) -E -include divsufsort.h -x c /dev/null > /dev/null 2>&1 && echo -DHAVE_DIVSUFSORT -ldivsufsort)
 
-.PHONY: lib example bench beside test clean
+.PHONY: lib agreement example bench beside test clean
 
 lib:
 	rt staticlib lyndon_c
 	mkdir -p target/lib
 	cp target/staticlib/liblyndon_c.a target/lib/liblyndon.a
 
+agreement:
+	rt staticlib agreement_c
+	mkdir -p target/lib
+	cp target/staticlib/libagreement_c.a target/lib/libagreement.a
+
 example: lib
 	mkdir -p target/examples
 	$(CC) $(CFLAGS) -o target/examples/runs examples/runs.c target/lib/liblyndon.a
 	./target/examples/runs mississippi
 
-bench: lib
+bench: lib agreement
 	mkdir -p target/bench
 	$(CC) $(CFLAGS) -o target/bench/bench $(BENCH) target/lib/liblyndon.a $(DIVSUFSORT)
 	./target/bench/bench
+	./scripts/agreement
 
 beside: lib
 	./scripts/beside $(OLD) $(CALLS)

@@ -64,6 +64,13 @@ static void two_powers(uint8_t *t, size_t n) {
     t[n - 1] = 'd';
 }
 
+static void agreeing(uint8_t *t, size_t n) {
+    /* b^m c b^m a: of all texts of three letters and 6 to 13 positions, those of this kind measure agreement most */
+    memset(t, 'b', n);
+    t[(n - 1) / 2] = 'c';
+    t[n - 1] = 'a';
+}
+
 static void hard_a(uint8_t *t, size_t n) {
     /* a^(m-1) b a^m b */
     size_t m = n / 2;
@@ -79,6 +86,12 @@ static void hard_ab(uint8_t *t, size_t n) {
     t[m - 2] = 'c';
     t[m - 1] = 'b';
     t[n - 1] = 'c';
+}
+
+static void long_agreement(uint8_t *t, size_t n) {
+    /* ((ab^63)^8 z (ab^63)^8 A)^k: parts that agree on many letters, again and again */
+    for (size_t i = 0; i < n; i++) t[i] = i % 513 % 64 == 0 ? 'a' : 'b';
+    for (size_t i = 512; i < n; i += 513) t[i] = i / 513 % 2 == 0 ? 'z' : 'A';
 }
 
 static void turned(uint8_t *t, size_t n, uint8_t sum) { for (size_t i = 0; i < n; i++) t[i] = (uint8_t)(sum - t[i]); }
@@ -100,6 +113,8 @@ static const struct { const char *name; void (*fill)(uint8_t *, size_t); int nat
     {"b^(m-1) a b^m a", hard_a_turned, 0},
     {"(ab)^k cb (ab)^k c", hard_ab, 0},
     {"(cb)^k ab (cb)^k a", hard_ab_turned, 0},
+    {"b^m c b^m a", agreeing, 0},
+    {"((ab^63)^8 z (ab^63)^8 A)^k", long_agreement, 0},
 };
 
 int family_count(void) { return (int)(sizeof families / sizeof families[0]); }

@@ -9,6 +9,9 @@ void reference_array_u8(const uint8_t *x, size_t n, uint32_t order, uint32_t *L)
 void reference_array_u32(const uint32_t *x, size_t n, uint32_t order, uint32_t *L);
 /* The number of runs, below n; list holds three numbers for each. */
 size_t reference_runs(const uint8_t *x, size_t n, uint32_t *work, uint32_t *list);
+/* The same, with the letters counted that were compared: when factors are joined, in the measure of how far two suffixes agree, and to the left. */
+extern struct reference_compared { uint64_t joins, agreement, left; } reference_compared;
+size_t reference_runs_counted(const uint8_t *x, size_t n, uint32_t *work, uint32_t *list);
 /* The number of factors, and of letter comparisons: a question for less, equal or greater counts once. */
 size_t reference_factorization(const uint8_t *x, size_t n, uint32_t *out, uint32_t *comparisons);
 void reference_suffix_table(const uint8_t *x, size_t n, uint32_t *out);

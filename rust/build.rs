@@ -10,6 +10,11 @@ fn main() {
     };
     let archive = folder.join("liblyndon.a");
     println!("cargo:rerun-if-changed={}", archive.display());
+    // What only the tests link: where it is, they are built anew with it.
+    let agreement = folder.join("libagreement.a");
+    if agreement.exists() {
+        println!("cargo:rerun-if-changed={}", agreement.display());
+    }
     if !archive.exists() {
         panic!("{} is missing: run `make lib` in the project's root, or name the library's folder by LYNDON_LIB_DIR", archive.display());
     }

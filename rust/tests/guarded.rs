@@ -284,6 +284,87 @@ fn short_texts() {
     }
 }
 
+// The measure of how far two words agree, by itself: crates/agreement_c, as `make agreement` writes it.
+#[link(name = "agreement", kind = "static")]
+extern "C" {
+    fn agreement_common_prefix(keys: *const [u8; 256], u: *const u8, u_len: usize, v: *const u8, v_len: usize) -> usize;
+    fn agreement_common_prefix_ranked(keys: *const [u8; 256], u: *const u8, u_len: usize, v: *const u8, v_len: usize) -> usize;
+}
+
+const LONGEST: usize = 40;
+
+/// The letters of all words of the two tests below; they have eight more letters than the words.
+fn agreeing_letters() -> Vec<u8> {
+    (0..LONGEST + 8).map(|i| b"TtacgGCAxb"[i * i % 10]).collect()
+}
+
+/// Each letter of a word in turn replaced, by one that differs in a bit and by the same letter in the other case; and none.
+fn replaced(word: &[u8]) -> impl Iterator<Item = (usize, u8)> + '_ {
+    let others = word.iter().enumerate().flat_map(|(place, a)| [(place, a ^ 1 << (place % 8)), (place, a ^ 32)]);
+    others.chain(word.first().map(|a| (0, *a)))
+}
+
+/// Eight equal bytes at a time and one letter after another, against plain Rust: by the bytes, and by keys that fold cases.
+fn check_agreement(u: &[u8], v: &[u8]) {
+    let own: [u8; 256] = std::array::from_fn(|a| a as u8);
+    for keys in [own, own.map(|a| a.to_ascii_uppercase())] {
+        let want = u.iter().zip(v).take_while(|(a, b)| keys[usize::from(**a)] == keys[usize::from(**b)]).count();
+        let (n, m) = (u.len(), v.len());
+        let got = unsafe {
+            (
+                agreement_common_prefix(&keys, u.as_ptr(), n, v.as_ptr(), m),
+                agreement_common_prefix_ranked(&keys, u.as_ptr(), n, v.as_ptr(), m),
+            )
+        };
+        assert_eq!(got, (want, want), "{u:?}, {v:?}");
+    }
+}
+
+/// Both words end where a forbidden page starts, every pair of lengths.
+#[test]
+fn agreement_at_guarded_ends() {
+    let letters = agreeing_letters();
+    for n in 0..=LONGEST {
+        let mut first = Guarded::new(&letters[..n], Side::End);
+        check_agreement(first.slice(), &[]);
+        for m in 1..=LONGEST {
+            let mut second = Guarded::new(&letters[..m], Side::End);
+            for (place, other) in replaced(&letters[..m]) {
+                second.slice()[place] = other;
+                check_agreement(first.slice(), second.slice());
+                second.slice()[place] = letters[place];
+            }
+        }
+    }
+}
+
+/// The words start at every pair of offsets behind a forbidden page and have every pair of lengths. Their letters go on behind them, so that a
+/// letter read past an end would agree.
+#[test]
+fn agreement_at_every_offset() {
+    const OFFSETS: usize = 17;
+    let letters = agreeing_letters();
+    let behind = |offset: usize| Guarded::new(&[&vec![b'-'; offset], &letters[..]].concat(), Side::Start);
+    let mut firsts: Vec<Guarded<u8>> = (0..OFFSETS).map(behind).collect();
+    for (to, mut second) in (0..OFFSETS).map(behind).enumerate() {
+        for (from, first) in firsts.iter_mut().enumerate() {
+            (0..=LONGEST).for_each(|n| check_agreement(&first.slice()[from..from + n], &[]));
+        }
+        for m in 1..=LONGEST {
+            // The places around the first and the last eight letters, and one in the middle.
+            for (place, other) in replaced(&letters[..m]).filter(|(p, _)| *p < 9 || *p + 9 > m || *p == 20) {
+                second.slice()[to + place] = other;
+                for (from, first) in firsts.iter_mut().enumerate() {
+                    for n in 0..=LONGEST {
+                        check_agreement(&first.slice()[from..from + n], &second.slice()[to..to + m]);
+                    }
+                }
+                second.slice()[to + place] = letters[place];
+            }
+        }
+    }
+}
+
 /// All texts of two letters, by byte and by rank, with a run list of exactly the places needed, which ends where the forbidden page starts,
 /// and, where there is one, with one place less.
 #[test]

@@ -6,16 +6,16 @@ use mathlib.Core.List.{List}
 use Prim.Native.Nat.{ℕ, _+_, _<_, _≤_, _-_}
 use native.Mathlib.Decide.{decLt}
 use native.Mathlib.Omega.{arith}
-use lib.ListN.{length, getD, take, drop, length-drop}
-use lib.Seq.{getD-drop, take-all}
+use lib.ListN.{length, getD, drop, length-drop}
+use lib.Seq.{getD-drop}
 use denote.Enum.Declared.{tagOf}
 use Rattle.words.specs.Laws.SpanLyndon.{letters}
 use Rattle.letters.specs.declared.Comparison.{Comparison}
 use Rattle.letters.proofs.Comparison.{the-type}
 use Rattle.letters.specs.declared.Comparison.the-variants.{Below, Same, Above}
-use Rattle.array.specs.CommonPrefix.{commonPrefix}
+use Rattle.agreement.specs.CommonPrefix.{commonPrefix}
 use Rattle.array.specs.Core.RunExtent.{StoppedAt, Exact, ExtendedTo}
-use Rattle.array.proofs.CommonPrefixLaws.{Agreement, commonPrefix-agreement}
+use Rattle.agreement.specs.CommonPrefixLaws.{Agreement, commonPrefix-agreement}
 
 module _ (x buf : List ℕ) (i j k : ℕ) where
   -- At the end of the text nothing agrees.
@@ -34,7 +34,7 @@ module _ (x buf : List ℕ) (i j k : ℕ) where
         stops = λ q. w .stopped l .1 (omega (arith, w .own l));
       }
 
-  -- The comparison has stopped at the end of the factor, and the leaf measures on.
+  -- The comparison has stopped at the end of the factor, and the letters behind it are measured.
   further-exact : StoppedAt x buf i j k Above → j < length x → (r : ℕ) → r ≡ commonPrefix (drop (i + k) x) (drop (j + k) x) →
       Exact x i j (k + r)
   further-exact w l r e =
@@ -72,26 +72,16 @@ module _ (x buf : List ℕ) (i j k : ℕ) where
   extended-letter stop e w l m q h =
       subst (ExtendedTo x i j k) (sym e) (letter-exact (subst (StoppedAt x buf i j k) e w) l (omega arith))
 
-  -- The leaf is handed the rests of the text.
-  rests : (r : ℕ) → r ≡ commonPrefix (take (length x - (i + k)) (drop (i + k) x)) (take (length x - (j + k)) (drop (j + k) x)) →
-      r ≡ commonPrefix (drop (i + k) x) (drop (j + k) x)
-  rests r e =
-      e ∙ ap (λ (u : List ℕ). commonPrefix u (take (length x - (j + k)) (drop (j + k) x))) (whole (i + k)) ∙
-      ap (λ (v : List ℕ). commonPrefix (drop (i + k) x) v) (whole (j + k))
-    where
-      whole : (a : ℕ) → take (length x - a) (drop a x) ≡ drop a x
-      whole a = take-all (length x - a) (drop a x) (omega (arith, length-drop a x))
-
   pub extended-further : (stop : Comparison) → stop ≡ Above → StoppedAt x buf i j k stop → j < length x → (r : ℕ) →
-      r ≡ commonPrefix (take (length x - (i + k)) (drop (i + k) x)) (take (length x - (j + k)) (drop (j + k) x)) → ExtendedTo x i j (k + r) stop
+      r ≡ commonPrefix (drop (i + k) x) (drop (j + k) x) → ExtendedTo x i j (k + r) stop
   extended-further stop e w l r h =
-      subst (ExtendedTo x i j (k + r)) (sym e) (further-exact (subst (StoppedAt x buf i j k) e w) l r (rests r h))
+      subst (ExtendedTo x i j (k + r)) (sym e) (further-exact (subst (StoppedAt x buf i j k) e w) l r h)
 
   pub further-fits : (stop : Comparison) → StoppedAt x buf i j k stop → j < length x → (r : ℕ) →
-      r ≡ commonPrefix (take (length x - (i + k)) (drop (i + k) x)) (take (length x - (j + k)) (drop (j + k) x)) → k + r ≤ length x
+      r ≡ commonPrefix (drop (i + k) x) (drop (j + k) x) → k + r ≤ length x
   further-fits stop w l r h =
       omega
-      (arith, rests r h, commonPrefix-agreement (drop (i + k) x) (drop (j + k) x) .in-right, length-drop (j + k) x, w .agreeing l .within)
+      (arith, h, commonPrefix-agreement (drop (i + k) x) (drop (j + k) x) .in-right, length-drop (j + k) x, w .agreeing l .within)
 
   -- The comparison said below or same, as its tag tells.
   pub extended-stopped : (stop : Comparison) → (tagOf the-type stop ≡ 0) ⊎ (tagOf the-type stop ≡ 1) → StoppedAt x buf i j k stop → j < length x →

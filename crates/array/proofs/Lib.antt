@@ -1,4 +1,3 @@
-pub mod CommonPrefixLaws
 pub mod RowLaws
 pub mod Known
 pub mod LastPlace
@@ -17,7 +16,7 @@ pub mod Restoring
 pub mod ArrayWritten
 pub mod Extension
 pub mod LeftExtension
-pub mod RankedAgreement
+pub mod RankedLeft
 pub mod RunEntry
 pub mod Visiting
 pub mod RunList

@@ -1,4 +1,3 @@
-pub mod CommonPrefix
 pub mod Calls
 pub mod Core
 pub mod Theorems

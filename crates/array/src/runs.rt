@@ -1,5 +1,4 @@
 // The list of all runs of a text of bytes; letters with one key count as the same.
-use crate::agreement;
 use crate::bytes;
 use crate::places;
 use answer::Answer;
@@ -23,9 +22,10 @@ ghost use Rattle.letters.specs.RankLaws.{Bytes};
 ghost use Rattle.words.specs.Decided.{decided-rising};
 
 // How far the suffixes at i and end agree, where the join loop of i has stopped at end after `agreed` letters: all letters that do, unless
-// the two factors are the same; 0 at the end of the text.
+// the two factors are the same; 0 at the end of the text. By ranks the letters are compared singly, else eight at a look.
 fn extended(
     text: &[u8],
+    ranked: bool,
     keys: &[u8; 256],
     buf: &[u32],
     i: usize,
@@ -47,7 +47,12 @@ fn extended(
     }
     let u = &text[i + agreed..];
     let v = &text[end + agreed..];
-    agreed + agreement::common_prefix(keys, u, v)
+    let further = if ranked {
+        agreement::common_prefix_ranked(keys, u, v)
+    } else {
+        agreement::common_prefix(keys, u, v)
+    };
+    agreed + further
 }
 
 // The start of the letters before i that continue period p to the left.
@@ -111,6 +116,7 @@ fn list_at(
 fn visit(
     text: &[u8],
     order: u32,
+    ranked: bool,
     keys: &[u8; 256],
     buf: &mut [u32],
     list: &mut [u32],
@@ -125,7 +131,7 @@ fn visit(
     let agreed = w.agreed;
     let part = w.part;
     let outcome = w.stop;
-    let k = extended(text, keys, buf, i, end, agreed, outcome);
+    let k = extended(text, ranked, keys, buf, i, end, agreed, outcome);
     places::store_word(buf, i, end, k, part);
     let Comparison::Above = outcome else {
         return count;
@@ -138,6 +144,7 @@ fn visit(
 fn pass(
     text: &[u8],
     order: u32,
+    ranked: bool,
     keys: &[u8; 256],
     buf: &mut [u32],
     list: &mut [u32],
@@ -150,29 +157,36 @@ fn pass(
     let mut count = from;
     while 0 < i {
         i -= 1;
-        count = visit(text, order, keys, buf, list, count, i);
+        count = visit(text, order, ranked, keys, buf, list, count, i);
     }
     places::restore_all(buf, text.len());
     count
 }
 
 // Both orders, the runs sorted by start and then by last position; the number of runs.
-fn find(text: &[u8], keys: &[u8; 256], work: &mut [u32], list: &mut [u32]) -> usize
+fn find(text: &[u8], ranked: bool, keys: &[u8; 256], work: &mut [u32], list: &mut [u32]) -> usize
     requires { ⌜ Bytes (now keys) ⌝ }
     requires { ⌜ FindReady (rankRow (now keys) (now text)) (now work) (now list) ⌝ }
     ensures content { λ r. ⌜ RunsFound (rankRow (now (keys .entry)) (now (text .entry))) (now (work .entry)) (now (work .exit)) (now (list .entry)) (now (list .exit)) r ⌝ }
 {
     let n = text.len();
-    let first = pass(text, 0, keys, work, list, 0);
+    let first = pass(text, 0, ranked, keys, work, list, 0);
     let mut turned = [0u8; 256];
     letters::turned_table(keys, &mut turned);
-    let count = pass(text, 1, &turned, &mut work[n..], list, first);
+    let count = pass(text, 1, ranked, &turned, &mut work[n..], list, first);
     sorting::sort_triples(list, count);
     count
 }
 
 // The answer of the checks; where they pass, the runs are listed and the arrays written.
-fn answered(c: Check, text: &[u8], keys: &[u8; 256], work: &mut [u32], list: &mut [u32]) -> Answer
+fn answered(
+    c: Check,
+    text: &[u8],
+    ranked: bool,
+    keys: &[u8; 256],
+    work: &mut [u32],
+    list: &mut [u32],
+) -> Answer
     requires { ⌜ Bytes (now keys) ⌝ }
     requires { ⌜ ReadyWhere c (rankRow (now keys) (now text)) (now work) (now list) ⌝ }
     ensures answer { λ r. ⌜ r ≡ answerTo c (acceptedWith (length (runList (rankRow (now (keys .entry)) (now (text .entry)))))) ⌝ }
@@ -181,7 +195,7 @@ fn answered(c: Check, text: &[u8], keys: &[u8; 256], work: &mut [u32], list: &mu
 {
     match c {
         Check::Failed { reason, position } => answer::refused(reason, position),
-        Check::Passed => answer::accepted(find(text, keys, work, list) as u32),
+        Check::Passed => answer::accepted(find(text, ranked, keys, work, list) as u32),
     }
 }
 
@@ -196,7 +210,7 @@ pub fn runs(text: &[u8], work: &mut [u32], list: &mut [u32]) -> Answer
     let c = checks::runs(text.len(), list.len(), work.len());
     let mut keys = [0u8; 256];
     letters::rank_table(0, &text[..0], &mut keys);
-    answered(c, text, &keys, work, list)
+    answered(c, text, false, &keys, work, list)
 }
 
 // The same by the ranks of a table: letters with one rank count as the same. Afterwards the work buffer holds the Lyndon array rising by
@@ -209,5 +223,5 @@ pub fn runs_ranked(text: &[u8], table: &[u8], work: &mut [u32], list: &mut [u32]
     let c = checks::ranked_runs(text.len(), table.len(), list.len(), work.len());
     let mut keys = [0u8; 256];
     letters::rank_table(limits::RANKED, table, &mut keys);
-    answered(c, text, &keys, work, list)
+    answered(c, text, true, &keys, work, list)
 }

@@ -1,9 +1,9 @@
 -- The row of ranks: its length, its letters, and the row of each order by the tables that the code writes.
 -- Assumes nothing.
 use mathlib.Core.Path.{_≡_, refl, sym, ap, ap₂, subst, _∙_}
-use mathlib.Core.Bool.{Bool, true, false, cond, not}
-use mathlib.Core.List.{List, [], _∷_, map}
-use Prim.Native.Nat.{ℕ, zero, suc, _+_, _-_, _<_, _≤_}
+use mathlib.Core.Bool.{Bool, true, false, cond}
+use mathlib.Core.List.{List, [], _∷_}
+use Prim.Native.Nat.{ℕ, zero, suc, _-_, _<_}
 use native.Mathlib.Omega.{arith}
 use native.Mathlib.Decide.{decLt}
 use native.Mathlib.Nat.{zero-add}
@@ -11,9 +11,9 @@ use mir.Syntax.{w8}
 use mir.Val.{Fits}
 use borrow.Author.Tests.{eq-eqb, eqb-true, eqb-false, not-true, not-false}
 use lib.Dec.{eqb}
-use lib.ListN.{length, getD, length-map, List·getD-eq-default}
-use lib.Seq.{ext-getD}
-use Rattle.words.specs.Letters.{rising, falling, Smaller}
+use lib.ListN.{length, getD, take, drop, length-map, length-drop, List·getD-eq-default}
+use lib.Seq.{take-all}
+use Rattle.words.specs.Letters.{rising, falling}
 use Rattle.words.specs.Laws.SpanLyndon.{letters}
 use Rattle.words.specs.Laws.OrderedAlike.{Carries, OrderedAlike}
 use Rattle.words.specs.Laws.Tabulate.{length-tabulate, getD-tabulate}
@@ -27,6 +27,14 @@ use Rattle.letters.specs.Keys.{rankIn, rankTable, turnedTable}
 -- A list of bytes.
 pub record Bytes (x : List ℕ) : Type 0 where
   pub byte : (i : ℕ) → getD x i 0 < tableLength
+
+-- It is enough that the letters inside are bytes: past the end getD gives 0.
+pub bytes-inside : (x : List ℕ) → ((i : ℕ) → i < length x → getD x i 0 < tableLength) → Bytes x
+bytes-inside x inside = record { byte = λ i. at i (decLt i (length x)) }
+  where
+    at : (i : ℕ) → Dec (i < length x) → getD x i 0 < tableLength
+    at i (yes l) = inside i l
+    at i (no l) = subst (λ (a : ℕ). a < tableLength) (sym (List·getD-eq-default x 0 {n = i} (omega (arith, l)))) (omega arith)
 
 -- Letters that fit 8 bits are bytes.
 pub fitting-bytes : {x : List ℕ} → ((i : ℕ) → Fits w8 (getD x i 0)) → Bytes x
@@ -93,19 +101,15 @@ module _ (order : ℕ) (table : List ℕ) where
 
   -- The ranks of an order are bytes.
   pub rank-table-bytes : Bytes table → Bytes (rankTable order table)
-  rank-table-bytes ranks = record { byte = λ i. at i (decLt i tableLength) }
+  rank-table-bytes ranks = bytes-inside (rankTable order table) (λ i l. at i (omega (arith, rank-table-length)))
     where
       small : (u v : Bool) (a : ℕ) → a < tableLength → cond u (cond v (getD table a 0) a) a < tableLength
       small true true a l = ranks .byte a
       small true false a l = l
       small false v a l = l
 
-      at : (i : ℕ) → Dec (i < tableLength) → getD (rankTable order table) i 0 < tableLength
-      at i (yes l) =
-          subst (λ (r : ℕ). r < tableLength) (sym (rank-table-entry i l)) (small (usesTable order) (eqb (length table) tableLength) i l)
-      at i (no l) =
-          subst (λ (r : ℕ). r < tableLength)
-          (sym (List·getD-eq-default (rankTable order table) 0 {n = i} (omega (arith, rank-table-length, l)))) (omega arith)
+      at : (i : ℕ) → i < tableLength → getD (rankTable order table) i 0 < tableLength
+      at i l = subst (λ (r : ℕ). r < tableLength) (sym (rank-table-entry i l)) (small (usesTable order) (eqb (length table) tableLength) i l)
 
   -- By the ranks of an order the row is that of the order, if the table has 256 entries where it is used.
   pub rank-table-row : (x : List ℕ) → Bytes x → (usesTable order ≡ true → length table ≡ tableLength) → rankRow (rankTable order table) x ≡ rowIn order table x
@@ -165,3 +169,21 @@ module _ (table : List ℕ) (a b : ℕ) {r : Bool} (e : r ≡ rankDiffers table 
 
   pub ranks-agree : r ≡ false → rankBy table a ≡ rankBy table b
   ranks-agree f = eqb-true (rankBy table a) (rankBy table b) (not-false (eqb (rankBy table a) (rankBy table b)) (sym e ∙ f))
+
+-- Place i of one text and place j of another, compared by rank: r says whether the ranks differ.
+module _ (table x y : List ℕ) (i j : ℕ) (p : i < length x) (q : j < length y) {r : Bool} (e : r ≡ rankDiffers table (getD x i 0) (getD y j 0)) where
+  pub places-agree : r ≡ false → getD (rankRow table x) i 0 ≡ getD (rankRow table y) j 0
+  places-agree same = row-letter table x i p ∙ ranks-agree table (getD x i 0) (getD y j 0) e same ∙ sym (row-letter table y j q)
+
+  pub places-differ : r ≡ true → ¬ (getD (rankRow table x) i 0 ≡ getD (rankRow table y) j 0)
+  places-differ differ z =
+      ranks-differ table (getD x i 0) (getD y j 0) e differ (sym (row-letter table x i p) ∙ z ∙ row-letter table y j q)
+
+-- The row of the rest of a text from m on is the rest of its row.
+row-drop : (table x : List ℕ) (m : ℕ) → rankRow table (drop m x) ≡ drop m (rankRow table x)
+row-drop table x zero = refl
+row-drop table [] (suc m) = refl
+row-drop table (a ∷ x) (suc m) = row-drop table x m
+
+pub row-rest : (table x : List ℕ) (m : ℕ) → rankRow table (take (length x - m) (drop m x)) ≡ drop m (rankRow table x)
+row-rest table x m = ap (rankRow table) (take-all (length x - m) (drop m x) (omega (arith, length-drop m x))) ∙ row-drop table x m

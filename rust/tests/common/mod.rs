@@ -337,6 +337,7 @@ pub fn families(n: usize) -> Vec<(String, Vec<u8>)> {
     let mut hard_a = power(b"a", n);
     let mut hard_ab = [power(b"ab", half), power(b"ab", n - half)].concat();
     let mut end_b = power(b"a", n);
+    let mut agreeing = power(b"b", n);
     if n >= 8 {
         hard_a[half - 1] = b'b';
         hard_a[n - 1] = b'b';
@@ -344,6 +345,8 @@ pub fn families(n: usize) -> Vec<(String, Vec<u8>)> {
         hard_ab[half - 1] = b'b';
         hard_ab[n - 1] = b'c';
         end_b[n - 1] = b'b';
+        agreeing[(n - 1) / 2] = b'c';
+        agreeing[n - 1] = b'a';
     }
     let turned = |x: &[u8]| x.iter().map(|&c| b'z' - (c - b'a')).collect::<Vec<u8>>();
     let mut list = vec![
@@ -359,9 +362,10 @@ pub fn families(n: usize) -> Vec<(String, Vec<u8>)> {
         ("(abb)^k c (abb)^m d".to_string(), two_powers(b"abb", n)),
         ("a^(m-1) b a^m b".to_string(), hard_a),
         ("(ab)^k cb (ab)^k c".to_string(), hard_ab),
+        ("b^m c b^m a".to_string(), agreeing),
         ("dna, gaps and repeats".to_string(), repetitive(&mut numbers, n)),
     ];
-    let turned: Vec<_> = list[..12].iter().map(|(name, x)| (format!("{name}, turned"), turned(x))).collect();
+    let turned: Vec<_> = list[..13].iter().map(|(name, x)| (format!("{name}, turned"), turned(x))).collect();
     list.extend(turned);
     list.push(("random, 2 letters".to_string(), numbers.text(b"ab", n)));
     list.push(("random, 4 letters".to_string(), numbers.text(b"ACGT", n)));

@@ -1,15 +1,16 @@
 -- `array::runs::extended` meets its contract: each case by the comparison that stopped the joining.
 -- Assumes nothing.
 use mathlib.Core.Path.{_≡_, _∙_}
+use mathlib.Core.Logic.{⊎-elim}
 use mathlib.Core.List.{List}
-use Prim.Native.Nat.{ℕ, _+_, _-_, _<_, _≤_}
+use Prim.Native.Nat.{ℕ, _+_, _<_, _≤_}
 use native.Mathlib.Omega.{arith}
-use lib.ListN.{length, take, drop}
+use lib.ListN.{length, drop}
 use Rattle.letters.specs.Ranks.{rankRow}
-use Rattle.array.specs.CommonPrefix.{commonPrefix}
+use Rattle.agreement.specs.CommonPrefix.{commonPrefix}
+use Rattle.agreement.specs.CommonPrefixLaws.{rests-agree}
 use Rattle.array.proofs.Extension.{extended-end, extended-letter, extended-further, further-fits, extended-stopped}
 use Rattle.array.proofs.RankedLetters.{row-size}
-use Rattle.array.proofs.RankedAgreement.{rests-agree}
 use Rattle.array.specs.Core.Join.{Agreeing}
 use borrow.Author.Needs.{needs}
 use Rattle.array.proofs.runs.extended.Statement.{statement}
@@ -36,15 +37,14 @@ in-row c = omega (arith, size (start c))
 agreeing : (c : tie.Else1) → Agreeing (row (start c)) (start c .args .i) (start c .args .end) (start c .args .agreed)
 agreeing c = start c .pre .agreeing (in-row c)
 
--- How far the rests of the row agree.
-further : (c : tie.After-common-prefix) →
+-- How far the rests of the row agree, whichever way they were compared.
+further : (c : tie.Joined3) →
     let at = start (inside (c .before .before .before)) in
-    let a = at .args .i + at .args .agreed in
-    let b = at .args .end + at .args .agreed in
-    c .common-prefix .result ≡ commonPrefix (take (length (row at) - a) (drop a (row at))) (take (length (row at) - b) (drop b (row at)))
+    c .if3 .further ≡ commonPrefix (drop (at .args .i + at .args .agreed) (row at)) (drop (at .args .end + at .args .agreed) (row at))
 further c =
     let args = start (inside (c .before .before .before)) .args in
-    c .common-prefix .ensures ∙ rests-agree (args .keys .now) (args .text .now) (args .i + args .agreed) (args .end + args .agreed)
+    rests-agree (args .keys .now) (args .text .now) (args .text .now) (args .i + args .agreed) (args .end + args .agreed) (c .if3 .further)
+    (⊎-elim (λ r. r .2 ∙ r .1 .ensures) (λ r. r .2 ∙ r .1 .ensures) (c .if3 .came))
 
 returns : tie.Need-returns
 returns c =
@@ -100,18 +100,23 @@ part-v-start c = omega (arith, agreeing (inside (c .before)), size (start (insid
 part-v-end : tie.Need-part-v-end
 part-v-end c = search needs
 
+common-prefix-ranked-requires : tie.Need-common-prefix-ranked-requires
+common-prefix-ranked-requires c κs = search needs
+
 common-prefix-requires : tie.Need-common-prefix-requires
 common-prefix-requires c κs = search needs
 
 add-result : tie.Need-add-result
 add-result c =
-    let at-inside = inside (c .before .before .before) in
-    omega (arith, further-fits _ _ _ _ _ _ (start at-inside .pre) (in-row at-inside) _ (further c), size (start at-inside))
+    let joined = c .before in
+    let at-inside = inside (joined .before .before .before) in
+    omega (arith, further-fits _ _ _ _ _ _ (start at-inside .pre) (in-row at-inside) _ (further joined), size (start at-inside))
 
 returns-4 : tie.Need-returns-4
 returns-4 c =
-    let in-text = in-row (inside (c .before .before .before)) in
-    let agreed = further c in
+    let joined = c .before in
+    let in-text = in-row (inside (joined .before .before .before)) in
+    let agreed = further joined in
     search extended-further
 
 pub extended-spec : {M : Type 1} → statement M
@@ -133,6 +138,7 @@ extended-spec =
     sub-v
     part-v-start
     part-v-end
+    common-prefix-ranked-requires
     common-prefix-requires
     add-result
     returns-4)

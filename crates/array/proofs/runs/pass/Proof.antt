@@ -14,11 +14,11 @@ use Rattle.array.proofs.runs.pass.Statement.{statement}
 use Rattle.array.proofs.runs.pass.Tie as tie
 
 abbrev Inv-loop : tie.InvT-loop
-Inv-loop text order keys buf₀ list₀ from i₀ count₀ buf list i count =
+Inv-loop text order ranked keys buf₀ list₀ from i₀ count₀ buf list i count =
     (i ≤ length (rankRow keys text)) × Passing order (rankRow keys text) buf₀ buf list₀ list from i count
 
 abbrev μ-loop : tie.MeasureT-loop
-μ-loop text order keys buf₀ list₀ from i₀ count₀ buf list i count = i
+μ-loop text order ranked keys buf₀ list₀ from i₀ count₀ buf list i count = i
 
 loop-holds : tie.Need-loop-holds Inv-loop μ-loop
 loop-holds c =

@@ -3,7 +3,7 @@
 use borrow.Author.Needs.{needs}
 use Rattle.letters.specs.Ranks.{rankRow}
 use Rattle.array.proofs.LeftExtension.{LeftSoFar, left-start, left-end}
-use Rattle.array.proofs.RankedAgreement.{ranked-left, ranked-stop}
+use Rattle.array.proofs.RankedLeft.{ranked-left, ranked-stop}
 use Rattle.array.proofs.runs.start_of.Statement.{statement}
 use Rattle.array.proofs.runs.start_of.Tie as tie
 

@@ -1,15 +1,18 @@
 -- The longest common prefix is the number of letters that a comparison from the left finds alike.
 -- Assumes nothing.
-use mathlib.Core.Path.{_≡_, refl, subst}
+use mathlib.Core.Path.{_≡_, refl, sym, ap, ap₂, subst, _∙_}
 use mathlib.Core.Bool.{Bool, true, false}
 use mathlib.Core.List.{List, [], _∷_}
-use Prim.Native.Nat.{ℕ, zero, suc, _+_, _<_, _≤_}
+use Prim.Native.Nat.{ℕ, zero, suc, _+_, _-_, _<_, _≤_}
 use native.Mathlib.Decide.{decLt}
 use native.Mathlib.Omega.{arith}
 use lib.Dec.{eqb, eqb→eq}
-use lib.ListN.{length, getD}
+use lib.ListN.{length, getD, take, drop, length-drop}
+use lib.Seq.{length-take-le, getD-take, getD-drop, ext-getD}
 use borrow.Author.Tests.{eq-eqb}
-use Rattle.array.specs.CommonPrefix.{commonPrefix}
+use Rattle.letters.specs.Ranks.{rankRow}
+use Rattle.letters.specs.RankLaws.{row-rest}
+use Rattle.agreement.specs.CommonPrefix.{commonPrefix}
 
 -- What that number says.
 pub record Agreement (u v : List ℕ) (r : ℕ) : Type 0 where
@@ -85,3 +88,60 @@ alike-left-ends u v k w h = alike-is u v k w (λ p q. absurd (omega arith))
 
 pub alike-right-ends : (u v : List ℕ) (k : ℕ) → AlikeBelow u v k → length v ≤ k → k ≡ commonPrefix u v
 alike-right-ends u v k w h = alike-is u v k w (λ p q. absurd (omega arith))
+
+-- Behind letters that agree, the rests agree on as many letters as are left.
+pub common-rest : (u v : List ℕ) (k : ℕ) → AlikeBelow u v k → k + commonPrefix (drop k u) (drop k v) ≡ commonPrefix u v
+common-rest u v zero w = omega arith
+common-rest [] v (suc k) w = absurd (omega (arith, w .in-left))
+common-rest (a ∷ u) [] (suc k) w = absurd (omega (arith, w .in-right))
+common-rest (a ∷ u) (b ∷ v) (suc k) w =
+    go (eqb a b) (eq-eqb a b (w .alike 0 (omega arith)))
+    (common-rest u v k
+    (record { in-left = omega (arith, w .in-left); in-right = omega (arith, w .in-right); alike = λ t h. w .alike (suc t) (omega arith) }))
+  where
+    go : (t : Bool) → t ≡ true → k + commonPrefix (drop k u) (drop k v) ≡ commonPrefix u v →
+        suc k + commonPrefix (drop k u) (drop k v) ≡ elim t [ true ↦ suc (commonPrefix u v) | false ↦ 0 ]
+    go true e rest = omega (arith, rest)
+    go false e rest = let z : _≡_ {A = ℕ} 0 1 = cc in absurd (omega arith)
+
+-- The letters below k agree, and the parts of m letters from there on agree on r letters: the letters below k + r agree.
+pub alike-part : (u v : List ℕ) (k m r : ℕ) → AlikeBelow u v k → k + m ≤ length u → k + m ≤ length v → r ≡ commonPrefix (take m (drop k u)) (take m (drop k v)) →
+    AlikeBelow u v (k + r)
+alike-part u v k m r w p q e =
+    record { in-left = omega (arith, p, few); in-right = omega (arith, q, few); alike = λ t h. at t h (decLt t k) }
+  where
+    f : Agreement (take m (drop k u)) (take m (drop k v)) r
+    f = subst (Agreement (take m (drop k u)) (take m (drop k v))) (sym e) (commonPrefix-agreement (take m (drop k u)) (take m (drop k v)))
+
+    few : r ≤ m
+    few = omega (arith, f .in-left, length-take-le m (drop k u) (omega (arith, length-drop k u)))
+
+    letter : (x : List ℕ) (t : ℕ) → k ≤ t → t < k + r → getD (take m (drop k x)) (t - k) 0 ≡ getD x t 0
+    letter x t a b =
+        let back : k + (t - k) ≡ t = omega arith in
+        getD-take m (drop k x) (t - k) 0 (omega (arith, few)) ∙ getD-drop k x (t - k) 0 ∙ ap (λ (s : ℕ). getD x s 0) back
+
+    at : (t : ℕ) → t < k + r → Dec (t < k) → getD u t 0 ≡ getD v t 0
+    at t h (yes l) = w .alike t l
+    at t h (no l) =
+        sym (letter u t (omega (arith, l)) h) ∙ f .alike (t - k) (omega (arith, l)) ∙ letter v t (omega (arith, l)) h
+
+-- The rests of two texts, from a and from b, agree in rank as far as those of their rows do.
+pub rests-agree : (table x y : List ℕ) (a b r : ℕ) →
+    r ≡ commonPrefix (rankRow table (take (length x - a) (drop a x))) (rankRow table (take (length y - b) (drop b y))) →
+    r ≡ commonPrefix (drop a (rankRow table x)) (drop b (rankRow table y))
+rests-agree table x y a b r e = e ∙ ap₂ commonPrefix (row-rest table x a) (row-rest table y b)
+
+-- A word agrees with itself on all its letters.
+pub common-self : (u : List ℕ) → commonPrefix u u ≡ length u
+common-self [] = refl
+common-self (a ∷ u) = go (eqb a a) (eq-eqb a a refl) (common-self u)
+  where
+    go : (t : Bool) → t ≡ true → commonPrefix u u ≡ length u → elim t [ true ↦ suc (commonPrefix u u) | false ↦ 0 ] ≡ suc (length u)
+    go true e rest = ap suc rest
+    go false e rest = let z : _≡_ {A = ℕ} 0 1 = cc in absurd (omega arith)
+
+-- Words of one length that agree on all their letters are equal.
+pub common-all : (u v : List ℕ) → length u ≡ length v → length u ≤ commonPrefix u v → u ≡ v
+common-all u v size all =
+    let w = commonPrefix-agreement u v in ext-getD 0 u v size (λ i l. w .alike i (omega (arith, all)))

@@ -1,0 +1,2 @@
+pub mod RankedAgreement
+pub mod PackedParts

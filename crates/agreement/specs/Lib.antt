@@ -1,0 +1,4 @@
+pub mod CommonPrefix
+pub mod CommonPrefixLaws
+pub mod Packed
+pub mod PackedLaws
