@@ -5,10 +5,10 @@
 #include "lyndon.h"
 #include "reference.h"
 #include "suffix_array.h"
+#include "timing.h"
 #include <stdio.h>
 #include <stdlib.h>
 #include <string.h>
-#include <time.h>
 
 #define LARGEST 1048576
 #define RUNS 15
@@ -26,18 +26,12 @@ struct written {
 };
 static struct written ours, theirs, by_suffixes;
 
-static double now(void) {
-    struct timespec t;
-    clock_gettime(CLOCK_MONOTONIC, &t);
-    return (double)t.tv_sec * 1e9 + (double)t.tv_nsec;
-}
-
 /* One run, in nanoseconds a letter. Short inputs are run many times at a look. */
 static double timed(void (*call)(size_t), size_t n) {
     size_t times = n < 10000 ? 2000 : 1;
-    double start = now();
+    double start = clock_now();
     for (size_t t = 0; t < times; t++) call(n);
-    return (now() - start) / (double)n / (double)times;
+    return (clock_now() - start) / (double)n / (double)times;
 }
 
 /* The best of some runs of each call. The calls take turns, so that what else the machine does falls on all of them. */

@@ -5,16 +5,11 @@
 #include "families.h"
 #include "lyndon.h"
 #include "reference.h"
+#include "timing.h"
 #include <stdio.h>
 #include <stdlib.h>
 #include <string.h>
-#include <time.h>
 
-#ifndef PAD
-#define PAD 64
-#endif
-#define TEXT(x) #x
-#define PADDING(n) __asm__(".text\n.skip " TEXT(n) "\n")
 PADDING(PAD);
 
 #define LARGEST 1048576
@@ -97,12 +92,6 @@ struct call {
     int in_both;
     void (*fill)(int, size_t);
 };
-
-static double clock_now(void) {
-    struct timespec t;
-    clock_gettime(CLOCK_MONOTONIC, &t);
-    return (double)t.tv_sec * 1e9 + (double)t.tv_nsec;
-}
 
 static double timed(void (*call)(size_t), size_t n) {
     size_t times = n < 1000 ? 20000 : n < 10000 ? 4000 : n < 100000 ? 4 : 1;

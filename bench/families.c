@@ -65,10 +65,11 @@ static void two_powers(uint8_t *t, size_t n) {
 }
 
 static void agreeing(uint8_t *t, size_t n) {
-    /* b^m c b^m a: of all texts of three letters and 6 to 13 positions, those of this kind measure agreement most */
+    /* b^m d b^m a b c: a large part of the letters that its runs compare are compared in the measure of agreement */
     memset(t, 'b', n);
-    t[(n - 1) / 2] = 'c';
-    t[n - 1] = 'a';
+    t[(n - 3) / 2] = 'd';
+    t[n - 3] = 'a';
+    t[n - 1] = 'c';
 }
 
 static void hard_a(uint8_t *t, size_t n) {
@@ -113,7 +114,7 @@ static const struct { const char *name; void (*fill)(uint8_t *, size_t); int nat
     {"b^(m-1) a b^m a", hard_a_turned, 0},
     {"(ab)^k cb (ab)^k c", hard_ab, 0},
     {"(cb)^k ab (cb)^k a", hard_ab_turned, 0},
-    {"b^m c b^m a", agreeing, 0},
+    {"b^m d b^m a b c", agreeing, 0},
     {"((ab^63)^8 z (ab^63)^8 A)^k", long_agreement, 0},
 };
 

@@ -288,7 +288,7 @@ fn short_texts() {
 #[link(name = "agreement", kind = "static")]
 extern "C" {
     fn agreement_common_prefix(keys: *const [u8; 256], u: *const u8, u_len: usize, v: *const u8, v_len: usize) -> usize;
-    fn agreement_common_prefix_ranked(keys: *const [u8; 256], u: *const u8, u_len: usize, v: *const u8, v_len: usize) -> usize;
+    fn agreement_common_prefix_singly(keys: *const [u8; 256], u: *const u8, u_len: usize, v: *const u8, v_len: usize) -> usize;
 }
 
 const LONGEST: usize = 40;
@@ -298,10 +298,23 @@ fn agreeing_letters() -> Vec<u8> {
     (0..LONGEST + 8).map(|i| b"TtacgGCAxb"[i * i % 10]).collect()
 }
 
-/// Each letter of a word in turn replaced, by one that differs in a bit and by the same letter in the other case; and none.
-fn replaced(word: &[u8]) -> impl Iterator<Item = (usize, u8)> + '_ {
-    let others = word.iter().enumerate().flat_map(|(place, a)| [(place, a ^ 1 << (place % 8)), (place, a ^ 32)]);
-    others.chain(word.first().map(|a| (0, *a)))
+/// The word, and words with one letter of it replaced or two: each place in turn, by a letter that differs in a bit and by the same letter in the
+/// other case, and behind it none, the next one, or one that may be in the next eight.
+fn replaced(word: &[u8]) -> Vec<Vec<u8>> {
+    let mut words = vec![word.to_vec()];
+    for place in 0..word.len() {
+        for (other, further) in [1 << (place % 8), 32].into_iter().flat_map(|bits| [(bits, 0), (bits, 1), (bits, 6)]) {
+            let mut letters = word.to_vec();
+            letters[place] ^= other;
+            match letters.get_mut(place + further) {
+                Some(letter) if further > 0 => *letter ^= 1 << (7 - place % 8),
+                Some(_) => (),
+                None => continue,
+            }
+            words.push(letters);
+        }
+    }
+    words
 }
 
 /// Eight equal bytes at a time and one letter after another, against plain Rust: by the bytes, and by keys that fold cases.
@@ -313,7 +326,7 @@ fn check_agreement(u: &[u8], v: &[u8]) {
         let got = unsafe {
             (
                 agreement_common_prefix(&keys, u.as_ptr(), n, v.as_ptr(), m),
-                agreement_common_prefix_ranked(&keys, u.as_ptr(), n, v.as_ptr(), m),
+                agreement_common_prefix_singly(&keys, u.as_ptr(), n, v.as_ptr(), m),
             )
         };
         assert_eq!(got, (want, want), "{u:?}, {v:?}");
@@ -324,16 +337,11 @@ fn check_agreement(u: &[u8], v: &[u8]) {
 #[test]
 fn agreement_at_guarded_ends() {
     let letters = agreeing_letters();
-    for n in 0..=LONGEST {
-        let mut first = Guarded::new(&letters[..n], Side::End);
-        check_agreement(first.slice(), &[]);
-        for m in 1..=LONGEST {
-            let mut second = Guarded::new(&letters[..m], Side::End);
-            for (place, other) in replaced(&letters[..m]) {
-                second.slice()[place] = other;
-                check_agreement(first.slice(), second.slice());
-                second.slice()[place] = letters[place];
-            }
+    let mut firsts: Vec<Guarded<u8>> = (0..=LONGEST).map(|n| Guarded::new(&letters[..n], Side::End)).collect();
+    for word in (0..=LONGEST).flat_map(|m| replaced(&letters[..m])) {
+        let mut second = Guarded::new(&word, Side::End);
+        for first in &mut firsts {
+            check_agreement(first.slice(), second.slice());
         }
     }
 }
@@ -345,21 +353,18 @@ fn agreement_at_every_offset() {
     const OFFSETS: usize = 17;
     let letters = agreeing_letters();
     let behind = |offset: usize| Guarded::new(&[&vec![b'-'; offset], &letters[..]].concat(), Side::Start);
-    let mut firsts: Vec<Guarded<u8>> = (0..OFFSETS).map(behind).collect();
-    for (to, mut second) in (0..OFFSETS).map(behind).enumerate() {
-        for (from, first) in firsts.iter_mut().enumerate() {
-            (0..=LONGEST).for_each(|n| check_agreement(&first.slice()[from..from + n], &[]));
-        }
-        for m in 1..=LONGEST {
-            // The places around the first and the last eight letters, and one in the middle.
-            for (place, other) in replaced(&letters[..m]).filter(|(p, _)| *p < 9 || *p + 9 > m || *p == 20) {
-                second.slice()[to + place] = other;
+    let (mut firsts, mut seconds): (Vec<Guarded<u8>>, Vec<Guarded<u8>>) =
+        ((0..OFFSETS).map(behind).collect(), (0..OFFSETS).map(behind).collect());
+    for m in 0..=LONGEST {
+        for word in replaced(&letters[..m]) {
+            for (to, second) in seconds.iter_mut().enumerate() {
+                second.slice()[to..to + m].copy_from_slice(&word);
                 for (from, first) in firsts.iter_mut().enumerate() {
                     for n in 0..=LONGEST {
                         check_agreement(&first.slice()[from..from + n], &second.slice()[to..to + m]);
                     }
                 }
-                second.slice()[to + place] = letters[place];
+                second.slice()[to..to + m].copy_from_slice(&letters[..m]);
             }
         }
     }

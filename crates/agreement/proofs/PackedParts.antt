@@ -21,10 +21,12 @@ first : (x : List ℕ) (k j m : ℕ) → k + 1 ≡ j → k < length x → take (
 first x k j m e h =
     let next : suc k ≡ j = omega arith in ap (take (suc m)) (drop-cons x k 0 h) ∙ ap (λ (n : ℕ). getD x k 0 ∷ take m (drop n x)) next
 
--- Eight letters, each by itself.
-eight : (x : List ℕ) (k : ℕ) → k + 8 ≤ length x →
-    take 8 (drop k x) ≡
+-- Eight letters, each by itself, are the part of eight from k on.
+abbrev eightFrom : List ℕ → ℕ → List ℕ
+eightFrom x k =
     getD x k 0 ∷ getD x (k + 1) 0 ∷ getD x (k + 2) 0 ∷ getD x (k + 3) 0 ∷ getD x (k + 4) 0 ∷ getD x (k + 5) 0 ∷ getD x (k + 6) 0 ∷ getD x (k + 7) 0 ∷ []
+
+eight : (x : List ℕ) (k : ℕ) → k + 8 ≤ length x → take 8 (drop k x) ≡ eightFrom x k
 eight x k h =
     first x k (k + 1) 7 (omega arith) (omega arith) ∙
     ap (λ (y : List ℕ). getD x k 0 ∷ y)
@@ -41,12 +43,7 @@ eight x k h =
     (first x (k + 6) (k + 7) 1 (omega arith) (omega arith) ∙
     ap (λ (y : List ℕ). getD x (k + 6) 0 ∷ y) (first x (k + 7) (k + 8) 0 (omega arith) (omega arith))))))))
 
--- The number of eight letters, each by itself, is that of the part.
-pub eight-packed : (x : List ℕ) (k r : ℕ) → k + 8 ≤ length x →
-    r ≡
-    packed
-    (getD x k 0 ∷ getD x (k + 1) 0 ∷ getD x (k + 2) 0 ∷ getD x (k + 3) 0 ∷ getD x (k + 4) 0 ∷ getD x (k + 5) 0 ∷ getD x (k + 6) 0 ∷ getD x (k + 7) 0 ∷ []) →
-    r ≡ packed (take 8 (drop k x))
+pub eight-packed : (x : List ℕ) (k r : ℕ) → k + 8 ≤ length x → r ≡ packed (eightFrom x k) → r ≡ packed (take 8 (drop k x))
 eight-packed x k r h e = e ∙ ap packed (sym (eight x k h))
 
 -- A part of a text of bytes is one of bytes.
@@ -55,12 +52,12 @@ part-bytes x k m bytes =
     bytes-inside (take m (drop k x)) (λ i l.
     subst (λ (a : ℕ). a < 256) (sym (getD-take m (drop k x) i 0 (omega (arith, length-take m (drop k x), l)) ∙ getD-drop k x i 0)) (bytes .byte (k + i)))
 
--- Two words agree below k and on r letters more, and not on eight more where x and y, the numbers of their eight bytes from k on, differ.
+-- Two words agree on r letters more than the k below, and on fewer than eight more where the numbers x and y differ.
 pub record AgreeFrom (u v : List ℕ) (k x y r : ℕ) : Type 0 where
   pub alike : AlikeBelow u v (k + r)
   pub few : ¬ (x ≡ y) → r < 8
 
--- Such numbers agree on r bytes.
+-- It is so where they agree below k, x and y are the numbers of their eight bytes from there on, and r of these bytes agree.
 pub agree-from : (u v : List ℕ) (k x y r : ℕ) → AlikeBelow u v k → k + 8 ≤ length u → k + 8 ≤ length v → Bytes u → Bytes v →
     x ≡ packed (take 8 (drop k u)) → y ≡ packed (take 8 (drop k v)) → r ≡ commonPrefix (unpacked 8 x) (unpacked 8 y) → AgreeFrom u v k x y r
 agree-from u v k x y r w p q bytes-u bytes-v is-x is-y e =

@@ -49,7 +49,7 @@ commonPrefix-agreement (a ∷ u) (b ∷ v) = go (eqb a b) refl (commonPrefix-agr
         }
 
 -- It is the only number that says so.
-pub agreement-is : (u v : List ℕ) (r : ℕ) → Agreement u v r → r ≡ commonPrefix u v
+agreement-is : (u v : List ℕ) (r : ℕ) → Agreement u v r → r ≡ commonPrefix u v
 agreement-is u v r w = go (decLt r (commonPrefix u v)) (decLt (commonPrefix u v) r)
   where
     c : Agreement u v (commonPrefix u v)

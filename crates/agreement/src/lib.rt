@@ -53,7 +53,7 @@ fn shorter(u: &[u8], v: &[u8]) -> usize
 }
 
 // The length of the longest common prefix of two words, letters with one key taken as the same: one letter after another.
-pub fn common_prefix_ranked(keys: &[u8; 256], u: &[u8], v: &[u8]) -> usize
+pub fn common_prefix_singly(keys: &[u8; 256], u: &[u8], v: &[u8]) -> usize
     ensures result { λ r. ⌜ r ≡ commonPrefix (rankRow (now (keys .entry)) (now (u .entry))) (rankRow (now (keys .entry)) (now (v .entry))) ⌝ }
 {
     let mut k: usize = 0;
@@ -70,14 +70,14 @@ pub fn common_prefix_ranked(keys: &[u8; 256], u: &[u8], v: &[u8]) -> usize
     k
 }
 
-// The same, eight equal bytes at a time. The first bytes that differ end it where their keys do; behind them, or behind the last whole eight,
-// it goes on one letter after another.
+// The same, eight equal bytes at a time. The first bytes that differ end it if their keys differ; if not, and behind the last whole eight, it goes on
+// one letter after another.
 pub fn common_prefix(keys: &[u8; 256], u: &[u8], v: &[u8]) -> usize
     ensures result { λ r. ⌜ r ≡ commonPrefix (rankRow (now (keys .entry)) (now (u .entry))) (rankRow (now (keys .entry)) (now (v .entry))) ⌝ }
 {
-    let n = shorter(u, v);
+    let whole = shorter(u, v) / 8 * 8;
     let mut k: usize = 0;
-    while 8 <= n - k {
+    while k < whole {
         let x = packed_at(u, k);
         let y = packed_at(v, k);
         if x != y {
@@ -90,5 +90,5 @@ pub fn common_prefix(keys: &[u8; 256], u: &[u8], v: &[u8]) -> usize
         }
         k += 8;
     }
-    k + common_prefix_ranked(keys, &u[k..], &v[k..])
+    k + common_prefix_singly(keys, &u[k..], &v[k..])
 }

@@ -14,8 +14,8 @@ pub extern "C" fn agreement_common_prefix(keys: &[u8; 256], u: &[u8], v: &[u8]) 
 
 // One letter after another.
 #[no_mangle]
-pub extern "C" fn agreement_common_prefix_ranked(keys: &[u8; 256], u: &[u8], v: &[u8]) -> usize
+pub extern "C" fn agreement_common_prefix_singly(keys: &[u8; 256], u: &[u8], v: &[u8]) -> usize
     ensures result { λ r. ⌜ r ≡ commonPrefix (rankRow (now (keys .entry)) (now (u .entry))) (rankRow (now (keys .entry)) (now (v .entry))) ⌝ }
 {
-    agreement::common_prefix_ranked(keys, u, v)
+    agreement::common_prefix_singly(keys, u, v)
 }

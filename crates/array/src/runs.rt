@@ -47,12 +47,10 @@ fn extended(
     }
     let u = &text[i + agreed..];
     let v = &text[end + agreed..];
-    let further = if ranked {
-        agreement::common_prefix_ranked(keys, u, v)
-    } else {
-        agreement::common_prefix(keys, u, v)
-    };
-    agreed + further
+    if ranked {
+        return agreed + agreement::common_prefix_singly(keys, u, v);
+    }
+    agreed + agreement::common_prefix(keys, u, v)
 }
 
 // The start of the letters before i that continue period p to the left.

@@ -345,8 +345,9 @@ pub fn families(n: usize) -> Vec<(String, Vec<u8>)> {
         hard_ab[half - 1] = b'b';
         hard_ab[n - 1] = b'c';
         end_b[n - 1] = b'b';
-        agreeing[(n - 1) / 2] = b'c';
-        agreeing[n - 1] = b'a';
+        agreeing[(n - 3) / 2] = b'd';
+        agreeing[n - 3] = b'a';
+        agreeing[n - 1] = b'c';
     }
     let turned = |x: &[u8]| x.iter().map(|&c| b'z' - (c - b'a')).collect::<Vec<u8>>();
     let mut list = vec![
@@ -362,7 +363,7 @@ pub fn families(n: usize) -> Vec<(String, Vec<u8>)> {
         ("(abb)^k c (abb)^m d".to_string(), two_powers(b"abb", n)),
         ("a^(m-1) b a^m b".to_string(), hard_a),
         ("(ab)^k cb (ab)^k c".to_string(), hard_ab),
-        ("b^m c b^m a".to_string(), agreeing),
+        ("b^m d b^m a b c".to_string(), agreeing),
         ("dna, gaps and repeats".to_string(), repetitive(&mut numbers, n)),
     ];
     let turned: Vec<_> = list[..13].iter().map(|(name, x)| (format!("{name}, turned"), turned(x))).collect();

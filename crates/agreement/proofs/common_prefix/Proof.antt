@@ -3,7 +3,7 @@
 use mathlib.Core.Path.{_≡_, sym, subst}
 use mathlib.Core.Bool.{true}
 use mathlib.Core.Logic.{⊎-elim}
-use Prim.Native.Nat.{ℕ, _+_, _-_, _<_, _≤_}
+use Prim.Native.Nat.{ℕ, _+_, _-_, _%_, _<_, _≤_}
 use native.Mathlib.Omega.{arith}
 use native.Mathlib.Nat.{min-le-left, min-le-right}
 use lib.ListN.{length}
@@ -18,19 +18,19 @@ use Rattle.agreement.proofs.common_prefix.Statement.{statement}
 use Rattle.agreement.proofs.common_prefix.Tie as tie
 
 abbrev Inv-loop : tie.InvT-loop
-Inv-loop keys u v n k₀ k = AlikeBelow u v k × (k ≤ n)
+Inv-loop keys u v whole k₀ k = AlikeBelow u v k × (k ≤ whole) × (k % 8 ≡ 0)
 
 abbrev μ-loop : tie.MeasureT-loop
-μ-loop keys u v n k₀ k = n - k
+μ-loop keys u v whole k₀ k = whole - k
 
 shorter-requires : tie.Need-shorter-requires Inv-loop μ-loop
 shorter-requires c κs = search needs
 
-loop-holds : tie.Need-loop-holds Inv-loop μ-loop
-loop-holds c = (alike-none _ _, omega arith)
+mul-whole : tie.Need-mul-whole Inv-loop μ-loop
+mul-whole c = search needs
 
-sub-loop : tie.Need-sub-loop Inv-loop μ-loop
-sub-loop c = search needs
+loop-holds : tie.Need-loop-holds Inv-loop μ-loop
+loop-holds c = (alike-none _ _, omega arith, omega arith)
 
 -- The call, from the test of the loop, and the test, from the moment when both numbers are known.
 abbrev start : tie.At-loop Inv-loop μ-loop → tie.Start Inv-loop μ-loop
@@ -100,7 +100,7 @@ loop-less : tie.Need-loop-less Inv-loop μ-loop
 loop-less c = search needs
 
 loop-again : tie.Need-loop-again Inv-loop μ-loop
-loop-again c = (told (c .before) 8 (packed-equal (c .if1 .left)) .alike, omega arith)
+loop-again c = (told (c .before) 8 (packed-equal (c .if1 .left)) .alike, omega arith, omega arith)
 
 -- However the loop was left, the bytes below k agree.
 behind : (c : tie.Left-loop Inv-loop μ-loop) →
@@ -113,36 +113,36 @@ behind c =
     (r .4 .ensures) .alike))
     (c .loop-test .came)
 
-sub-common-prefix-ranked : tie.Need-sub-common-prefix-ranked Inv-loop μ-loop
-sub-common-prefix-ranked c = behind (c .before) .in-left
+sub-common-prefix-singly : tie.Need-sub-common-prefix-singly Inv-loop μ-loop
+sub-common-prefix-singly c = behind (c .before) .in-left
 
-part-common-prefix-ranked-start : tie.Need-part-common-prefix-ranked-start Inv-loop μ-loop
-part-common-prefix-ranked-start c = omega (arith, behind (c .before))
+part-common-prefix-singly-start : tie.Need-part-common-prefix-singly-start Inv-loop μ-loop
+part-common-prefix-singly-start c = omega (arith, behind (c .before))
 
-part-common-prefix-ranked-end : tie.Need-part-common-prefix-ranked-end Inv-loop μ-loop
-part-common-prefix-ranked-end c = search needs
+part-common-prefix-singly-end : tie.Need-part-common-prefix-singly-end Inv-loop μ-loop
+part-common-prefix-singly-end c = search needs
 
-sub-common-prefix-ranked-2 : tie.Need-sub-common-prefix-ranked-2 Inv-loop μ-loop
-sub-common-prefix-ranked-2 c = behind (c .before .before) .in-right
+sub-common-prefix-singly-2 : tie.Need-sub-common-prefix-singly-2 Inv-loop μ-loop
+sub-common-prefix-singly-2 c = behind (c .before .before) .in-right
 
-part-common-prefix-ranked-start-2 : tie.Need-part-common-prefix-ranked-start-2 Inv-loop μ-loop
-part-common-prefix-ranked-start-2 c = omega (arith, behind (c .before .before))
+part-common-prefix-singly-start-2 : tie.Need-part-common-prefix-singly-start-2 Inv-loop μ-loop
+part-common-prefix-singly-start-2 c = omega (arith, behind (c .before .before))
 
-part-common-prefix-ranked-end-2 : tie.Need-part-common-prefix-ranked-end-2 Inv-loop μ-loop
-part-common-prefix-ranked-end-2 c = search needs
+part-common-prefix-singly-end-2 : tie.Need-part-common-prefix-singly-end-2 Inv-loop μ-loop
+part-common-prefix-singly-end-2 c = search needs
 
-common-prefix-ranked-requires : tie.Need-common-prefix-ranked-requires Inv-loop μ-loop
-common-prefix-ranked-requires c κs = search needs
+common-prefix-singly-requires : tie.Need-common-prefix-singly-requires Inv-loop μ-loop
+common-prefix-singly-requires c κs = search needs
 
 -- The letters of both parts together.
-counted : (c : tie.After-common-prefix-ranked Inv-loop μ-loop) →
+counted : (c : tie.After-common-prefix-singly Inv-loop μ-loop) →
     let at = c .before .before .before .before in
     let args = start (at .before) .args in
-    at .loop-test .k + c .common-prefix-ranked .result ≡ commonPrefix (rankRow (args .keys .now) (args .u .now)) (rankRow (args .keys .now) (args .v .now))
+    at .loop-test .k + c .common-prefix-singly .result ≡ commonPrefix (rankRow (args .keys .now) (args .u .now)) (rankRow (args .keys .now) (args .v .now))
 counted c =
     let at = c .before .before .before .before in
     let args = start (at .before) .args in
-    rests-counted (args .keys .now) (args .u .now) (args .v .now) (at .loop-test .k) _ (behind at) (c .common-prefix-ranked .ensures)
+    rests-counted (args .keys .now) (args .u .now) (args .v .now) (at .loop-test .k) _ (behind at) (c .common-prefix-singly .ensures)
 
 add-result : tie.Need-add-result Inv-loop μ-loop
 add-result c =
@@ -160,8 +160,8 @@ common-prefix-spec =
     Inv-loop
     μ-loop
     shorter-requires
+    mul-whole
     loop-holds
-    sub-loop
     packed-at-requires
     packed-at-requires-2
     common-bytes-requires
@@ -173,12 +173,12 @@ common-prefix-spec =
     add-k
     loop-less
     loop-again
-    sub-common-prefix-ranked
-    part-common-prefix-ranked-start
-    part-common-prefix-ranked-end
-    sub-common-prefix-ranked-2
-    part-common-prefix-ranked-start-2
-    part-common-prefix-ranked-end-2
-    common-prefix-ranked-requires
+    sub-common-prefix-singly
+    part-common-prefix-singly-start
+    part-common-prefix-singly-end
+    sub-common-prefix-singly-2
+    part-common-prefix-singly-start-2
+    part-common-prefix-singly-end-2
+    common-prefix-singly-requires
     add-result
     returns-2)

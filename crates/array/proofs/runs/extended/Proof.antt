@@ -1,11 +1,10 @@
 -- `array::runs::extended` meets its contract: each case by the comparison that stopped the joining.
 -- Assumes nothing.
-use mathlib.Core.Path.{_≡_, _∙_}
-use mathlib.Core.Logic.{⊎-elim}
+use mathlib.Core.Path.{_≡_}
 use mathlib.Core.List.{List}
-use Prim.Native.Nat.{ℕ, _+_, _<_, _≤_}
+use Prim.Native.Nat.{ℕ, _+_, _-_, _<_, _≤_}
 use native.Mathlib.Omega.{arith}
-use lib.ListN.{length, drop}
+use lib.ListN.{length, take, drop}
 use Rattle.letters.specs.Ranks.{rankRow}
 use Rattle.agreement.specs.CommonPrefix.{commonPrefix}
 use Rattle.agreement.specs.CommonPrefixLaws.{rests-agree}
@@ -37,14 +36,23 @@ in-row c = omega (arith, size (start c))
 agreeing : (c : tie.Else1) → Agreeing (row (start c)) (start c .args .i) (start c .args .end) (start c .args .agreed)
 agreeing c = start c .pre .agreeing (in-row c)
 
--- How far the rests of the row agree, whichever way they were compared.
-further : (c : tie.Joined3) →
-    let at = start (inside (c .before .before .before)) in
-    c .if3 .further ≡ commonPrefix (drop (at .args .i + at .args .agreed) (row at)) (drop (at .args .end + at .args .agreed) (row at))
-further c =
-    let args = start (inside (c .before .before .before)) .args in
-    rests-agree (args .keys .now) (args .text .now) (args .text .now) (args .i + args .agreed) (args .end + args .agreed) (c .if3 .further)
-    (⊎-elim (λ r. r .2 ∙ r .1 .ensures) (λ r. r .2 ∙ r .1 .ensures) (c .if3 .came))
+-- How far the rests of the row agree, as both ways of comparing tell it, and that the sum fits.
+module _ (c : tie.After-v) where
+  abbrev at : tie.Start
+  at = start (inside (c .before .before))
+
+  further : (r : ℕ) →
+      let x = at .args .text .now in
+      let a = at .args .i + at .args .agreed in
+      let b = at .args .end + at .args .agreed in
+      let keys = at .args .keys .now in
+      r ≡ commonPrefix (rankRow keys (take (length x - a) (drop a x))) (rankRow keys (take (length x - b) (drop b x))) →
+      r ≡ commonPrefix (drop a (row at)) (drop b (row at))
+  further = rests-agree (at .args .keys .now) (at .args .text .now) (at .args .text .now) (at .args .i + at .args .agreed) (at .args .end + at .args .agreed)
+
+  fits : (r : ℕ) → r ≡ commonPrefix (drop (at .args .i + at .args .agreed) (row at)) (drop (at .args .end + at .args .agreed) (row at)) →
+      at .args .agreed + r ≤ length (at .args .text .now)
+  fits r e = omega (arith, further-fits _ _ _ _ _ _ (at .pre) (in-row (inside (c .before .before))) _ e, size at)
 
 returns : tie.Need-returns
 returns c =
@@ -100,23 +108,32 @@ part-v-start c = omega (arith, agreeing (inside (c .before)), size (start (insid
 part-v-end : tie.Need-part-v-end
 part-v-end c = search needs
 
-common-prefix-ranked-requires : tie.Need-common-prefix-ranked-requires
-common-prefix-ranked-requires c κs = search needs
+common-prefix-singly-requires : tie.Need-common-prefix-singly-requires
+common-prefix-singly-requires c κs = search needs
 
 common-prefix-requires : tie.Need-common-prefix-requires
 common-prefix-requires c κs = search needs
 
 add-result : tie.Need-add-result
 add-result c =
-    let joined = c .before in
-    let at-inside = inside (joined .before .before .before) in
-    omega (arith, further-fits _ _ _ _ _ _ (start at-inside .pre) (in-row at-inside) _ (further joined), size (start at-inside))
+    let agreed = further (c .before .before) _ (c .common-prefix-singly .ensures) in
+    omega (arith, fits (c .before .before) _ agreed)
 
 returns-4 : tie.Need-returns-4
 returns-4 c =
-    let joined = c .before in
-    let in-text = in-row (inside (joined .before .before .before)) in
-    let agreed = further joined in
+    let in-text = in-row (inside (c .before .before .before .before)) in
+    let agreed = further (c .before .before) _ (c .common-prefix-singly .ensures) in
+    search extended-further
+
+add-result-2 : tie.Need-add-result-2
+add-result-2 c =
+    let agreed = further (c .before .before) _ (c .common-prefix .ensures) in
+    omega (arith, fits (c .before .before) _ agreed)
+
+returns-5 : tie.Need-returns-5
+returns-5 c =
+    let in-text = in-row (inside (c .before .before .before .before)) in
+    let agreed = further (c .before .before) _ (c .common-prefix .ensures) in
     search extended-further
 
 pub extended-spec : {M : Type 1} → statement M
@@ -138,7 +155,9 @@ extended-spec =
     sub-v
     part-v-start
     part-v-end
-    common-prefix-ranked-requires
-    common-prefix-requires
+    common-prefix-singly-requires
     add-result
-    returns-4)
+    returns-4
+    common-prefix-requires
+    add-result-2
+    returns-5)

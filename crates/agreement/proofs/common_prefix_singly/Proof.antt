@@ -1,4 +1,4 @@
--- `agreement::common_prefix_ranked` meets its contract: the letters below k agree.
+-- `agreement::common_prefix_singly` meets its contract: the letters below k agree.
 -- Assumes nothing.
 use borrow.Author.Needs.{needs}
 use Prim.Native.Nat.{_-_}
@@ -6,8 +6,8 @@ use lib.ListN.{length}
 use Rattle.letters.specs.Ranks.{rankRow}
 use Rattle.agreement.specs.CommonPrefixLaws.{AlikeBelow, alike-none}
 use Rattle.agreement.proofs.RankedAgreement.{ranked-alike, ranked-differs, left-ends, right-ends}
-use Rattle.agreement.proofs.common_prefix_ranked.Statement.{statement}
-use Rattle.agreement.proofs.common_prefix_ranked.Tie as tie
+use Rattle.agreement.proofs.common_prefix_singly.Statement.{statement}
+use Rattle.agreement.proofs.common_prefix_singly.Tie as tie
 
 abbrev Inv-loop : tie.InvT-loop
 Inv-loop keys u v k₀ k = AlikeBelow (rankRow keys u) (rankRow keys v) k
@@ -45,8 +45,8 @@ returns-2 c = search right-ends
 returns-3 : tie.Need-returns-3 Inv-loop μ-loop
 returns-3 c = search left-ends
 
-pub common-prefix-ranked-spec : {M : Type 1} → statement M
-common-prefix-ranked-spec =
+pub common-prefix-singly-spec : {M : Type 1} → statement M
+common-prefix-singly-spec =
     tie.close
     (tie.spec
     Inv-loop
