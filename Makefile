@@ -1,4 +1,4 @@
-# lib: the static library, proved and ready to link, beside include/lyndon.h. example: a C program that uses it.
+# lib: the static library, proved and ready to link, beside include/lyndon.h. example: two C programs that use it.
 # agreement: the measure of how far two words agree, by itself, for the benchmark and the tests.
 # bench: the benchmark. beside: the library beside an older one, OLD=.../liblyndon.a, all calls or those whose names begin with a word of
 # CALLS. test: all tests.
@@ -23,11 +23,15 @@ example: lib
 	mkdir -p target/examples
 	$(CC) $(CFLAGS) -o target/examples/runs examples/runs.c target/lib/liblyndon.a
 	./target/examples/runs mississippi
+	$(CC) $(CFLAGS) -o target/examples/two_groups examples/two_groups.c target/lib/liblyndon.a
+	./target/examples/two_groups GATTaca
 
 bench: lib agreement
 	mkdir -p target/bench
 	$(CC) $(CFLAGS) -o target/bench/bench $(BENCH) target/lib/liblyndon.a $(DIVSUFSORT)
 	./target/bench/bench
+	$(CC) $(CFLAGS) -o target/bench/store bench/store.c bench/families.c target/lib/liblyndon.a
+	./target/bench/store
 	./scripts/agreement
 
 beside: lib

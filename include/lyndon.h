@@ -17,7 +17,7 @@
 extern "C" {
 #endif
 
-/* number 0: accepted, value is the count; comparisons is 0 but for lyndon_factorization and its ranked form.
+/* number 0: accepted, value is the count; comparisons is 0 but for lyndon_factorization, its ranked form and lyndon_store_factorization.
  * Else the refusal's number, value is the position (0 where none is named), and comparisons is 0:
  *   1  the text or array is empty
  *   2  it is longer than 1,048,576
@@ -35,9 +35,11 @@ extern "C" {
  *  13  there is no letter; the position is the input's length
  *  14  there is a 4,097th letter; the position is that letter's in the input
  *  15  the input is longer than 16,384 bytes; the position is 16384
- *  16  a rank table that is to be used does not have 256 entries
- * Checks are made in the order 1, 2, 3, 16, 4, 5, then 6 and 7 in one pass, then 8; for FASTA 4, 15, 9, 10, then 11, 12 and 14 in one
- * pass, 13.
+ *  16  a rank table that is to be used, or written into a store, does not have 256 entries
+ *  21  there is no such group, or it has no table of that number
+ *  22  a group's own table is used, or read, before it was written
+ * Checks are made in the order 21, 22, 1, 2, 3, 16, 4, 5, then 6 and 7 in one pass, then 8; for FASTA 4, 15, 9, 10, then 11, 12 and 14 in
+ * one pass, 13.
  */
 typedef struct {
     uint32_t number;
@@ -106,6 +108,53 @@ lyndon_answer lyndon_left_forest_ranked(const uint8_t *text, size_t n, uint32_t 
  * array rising by rank and then the one falling by rank. Refusals 1, 2, 16, 4 (list), 5. */
 lyndon_answer lyndon_runs_ranked(const uint8_t *text, size_t n, const uint8_t *table, size_t table_len, uint32_t *work, size_t work_len,
     uint32_t *list, size_t list_len);
+
+/* A store of rank tables for two groups of users, 1 and 2. A group has three tables of its own, 0 to 2, which its calls alone replace; in a
+ * new store none is written. Two built-in tables are for both groups, and nobody changes them: 0 ranks each byte by its number; 1 ranks
+ * a to z as A to Z, and every other byte by its number.
+ *
+ * A store is plain data, handed on by value from call to call. Own table k of group g is the 256 bytes from tables[((g - 1) * 3 + k) * 256]
+ * on, and is written where written[(g - 1) * 3 + k] is not 0. Any bytes are a store; all bytes 0 are a new one. Where a new store is handed
+ * on, what a group's calls answer and write, and its tables, do not depend on which calls the other group makes between them.
+ *
+ * Since a store goes by value, the table of a write and the out of a read may lie inside a store variable of the caller's, even the one
+ * that the call is given. */
+typedef struct {
+    uint8_t tables[1536];
+    uint8_t written[6];
+} lyndon_store;
+
+/* What a write returns: the store to hand on, and the answer. */
+typedef struct {
+    lyndon_store store;
+    lyndon_answer answer;
+} lyndon_store_written;
+
+/* A new store. */
+lyndon_store lyndon_store_new(void);
+
+/* Writes the group's own table of that number, 0 to 2, anew where it is written already: the store returned has the 256 bytes in its place
+ * and 1 for its flag, and all else as it was. The count is 256. A refused write returns the store as it was. Refusals 21, 16. */
+lyndon_store_written lyndon_store_write(lyndon_store store, uint32_t group, uint32_t number, const uint8_t *table, size_t table_len);
+
+/* The calls below name a table by group, built_in and number: where built_in is 0 the group's own, 0 to 2, else a built-in one, 0 or 1. A
+ * group that does not exist is refused with 21 there too. They change no store. */
+
+/* Reads a table. Needs 256 places; the count is 256. Refusals 21, 22, 4. */
+lyndon_answer lyndon_store_read(lyndon_store store, uint32_t group, uint32_t built_in, uint32_t number, uint8_t *out, size_t out_len);
+
+/* The ranked calls in order 2 by a table of the store: places, counts, contents and comparisons are theirs. Refusals 21, 22, 1, 2, 4, and
+ * of the runs 5. */
+lyndon_answer lyndon_store_array(lyndon_store store, uint32_t group, uint32_t built_in, uint32_t number, const uint8_t *text, size_t n,
+    uint32_t *out, size_t out_len);
+lyndon_answer lyndon_store_factorization(lyndon_store store, uint32_t group, uint32_t built_in, uint32_t number, const uint8_t *text,
+    size_t n, uint32_t *out, size_t out_len);
+lyndon_answer lyndon_store_suffix_table(lyndon_store store, uint32_t group, uint32_t built_in, uint32_t number, const uint8_t *text,
+    size_t n, uint32_t *out, size_t out_len);
+lyndon_answer lyndon_store_left_forest(lyndon_store store, uint32_t group, uint32_t built_in, uint32_t number, const uint8_t *text,
+    size_t n, uint32_t *first, size_t first_len, uint32_t *past, size_t past_len);
+lyndon_answer lyndon_store_runs(lyndon_store store, uint32_t group, uint32_t built_in, uint32_t number, const uint8_t *text, size_t n,
+    uint32_t *work, size_t work_len, uint32_t *list, size_t list_len);
 
 /* The letters of a FASTA input of one record, as capitals: a lower-case letter is the same base, masked, and a to z are written as A to Z.
  * A record is '>', a name of 1 to 60 bytes from 33 to 126 ended by space, tab, CR, LF or the end, the rest of that line, then sequence lines

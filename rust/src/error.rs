@@ -37,6 +37,8 @@ impl fmt::Display for Error {
             14 => write!(f, "byte {at} is a letter past the {MAX_LETTERS} that are read"),
             15 => write!(f, "the input is longer than {MAX_INPUT} bytes"),
             16 => write!(f, "the rank table does not have 256 entries"),
+            21 => write!(f, "there is no such group, or it has no table of that number"),
+            22 => write!(f, "the group's table is not written yet"),
             _ => write!(f, "refused at position {at}"),
         }?;
         write!(f, " (refusal {})", self.number)

@@ -5,15 +5,40 @@
 /// The answer as C has it: number 0, the count and the letter comparisons, which only the factorization counts, or a refusal's number, the
 /// position and 0.
 #[repr(C)]
-#[derive(Clone, Copy)]
+#[derive(Clone, Copy, Debug, PartialEq, Eq)]
 pub struct Answer {
     pub number: u32,
     pub value: u32,
     pub comparisons: u32,
 }
 
+/// A table store as C has it: own table `k` of group `g` is the 256 bytes from `((g - 1) * 3 + k) * 256` on, and its flag, 0 for unwritten,
+/// stands at `(g - 1) * 3 + k`.
+#[repr(C)]
+#[derive(Clone, Copy, Debug, PartialEq, Eq)]
+pub struct Store {
+    pub tables: [u8; 1536],
+    pub written: [u8; 6],
+}
+
+/// A store and the answer of the write that returns it.
+#[repr(C)]
+#[derive(Clone, Copy)]
+pub struct StoreWritten {
+    pub store: Store,
+    pub answer: Answer,
+}
+
+/// The three numbers by which a call names a table of a store: where `built_in` is 0 the group's own, else a built-in one.
+#[derive(Clone, Copy, Debug)]
+pub struct TableName {
+    pub group: u32,
+    pub built_in: u32,
+    pub number: u32,
+}
+
 pub mod c {
-    use super::Answer;
+    use super::{Answer, Store, StoreWritten};
 
     extern "C" {
         pub fn lyndon_array_u8(text: *const u8, n: usize, order: u32, out: *mut u32, out_len: usize) -> Answer;
@@ -53,6 +78,9 @@ pub mod c {
             list_len: usize,
         ) -> Answer;
         pub fn lyndon_read_fasta(input: *const u8, len: usize, letters: *mut u8, letters_len: usize) -> Answer;
+        pub fn lyndon_store_new() -> Store;
+        pub fn lyndon_store_write(store: Store, group: u32, number: u32, table: *const u8, table_len: usize) -> StoreWritten;
+        pub fn lyndon_store_read(store: Store, group: u32, built_in: u32, number: u32, out: *mut u8, out_len: usize) -> Answer;
     }
 
     /// Declares the ranked calls that write one buffer: all have the same arguments.
@@ -145,4 +173,38 @@ pub fn runs_ranked(text: &[u8], table: &[u8], work: &mut [u32], list: &mut [u32]
 
 pub fn read_fasta(input: &[u8], letters: &mut [u8]) -> Answer {
     unsafe { c::lyndon_read_fasta(input.as_ptr(), input.len(), letters.as_mut_ptr(), letters.len()) }
+}
+
+pub fn store_new() -> Store {
+    unsafe { c::lyndon_store_new() }
+}
+
+pub fn store_write(store: &Store, group: u32, number: u32, table: &[u8]) -> StoreWritten {
+    unsafe { c::lyndon_store_write(*store, group, number, table.as_ptr(), table.len()) }
+}
+
+pub fn store_read(store: &Store, name: TableName, out: &mut [u8]) -> Answer {
+    unsafe { c::lyndon_store_read(*store, name.group, name.built_in, name.number, out.as_mut_ptr(), out.len()) }
+}
+
+/// Declares and wraps the calls that use a table of a store: all have the same arguments up to their buffers.
+macro_rules! store_uses {
+    ($($name:ident: $call:ident($($buffer:ident),+);)*) => {
+        $(pub fn $name(store: &Store, name: TableName, text: &[u8], $($buffer: &mut [u32]),+) -> Answer {
+            extern "C" {
+                fn $call(
+                    store: Store, group: u32, built_in: u32, number: u32, text: *const u8, n: usize, $($buffer: *mut u32, _: usize),+
+                ) -> Answer;
+            }
+            let TableName { group, built_in, number } = name;
+            unsafe { $call(*store, group, built_in, number, text.as_ptr(), text.len(), $($buffer.as_mut_ptr(), $buffer.len()),+) }
+        })*
+    };
+}
+store_uses! {
+    store_array: lyndon_store_array(out);
+    store_factorization: lyndon_store_factorization(out);
+    store_suffix_table: lyndon_store_suffix_table(out);
+    store_left_forest: lyndon_store_left_forest(first, past);
+    store_runs: lyndon_store_runs(work, list);
 }

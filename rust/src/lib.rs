@@ -8,6 +8,9 @@
 //! The calls on texts of bytes have a further form, named `.._ranked`, that can compare letters by ranks of the caller's own: where an order
 //! is asked for, give an [`Order`] or `&`[`Ranks`].
 //!
+//! Two groups of users can keep their ranks in one [`TableStore`], and call by the tables that stand there: each group by its own and by two
+//! built-in ones, never by the other group's.
+//!
 //! The functions behind these wrappers are proved to do what the definitions say, for every input. The wrappers themselves are plain Rust.
 //!
 //! ```
@@ -29,9 +32,11 @@ mod error;
 #[allow(unsafe_code)]
 mod ffi;
 mod ranks;
+mod store;
 
 pub use error::Error;
 pub use ranks::{GroupError, LetterOrder, Ranks};
+pub use store::{Group, Group1, Group2, GroupTables, Table, TableStore};
 
 /// The largest number of letters of a text, or of entries of an array.
 pub const MAX_LENGTH: usize = 1_048_576;

@@ -1,6 +1,24 @@
-//! The C example, compiled with the header and the library as a C user would, and run.
-use std::path::Path;
+//! The C examples, compiled with the header and the library as a C user would, and run.
+use std::path::{Path, PathBuf};
 use std::process::Command;
+
+fn root() -> PathBuf {
+    Path::new(env!("CARGO_MANIFEST_DIR")).join("..")
+}
+
+/// Compiles an example, with every warning an error.
+fn built(name: &str) -> PathBuf {
+    let program = Path::new(env!("CARGO_TARGET_TMPDIR")).join(name);
+    let status = Command::new(std::env::var("CC").unwrap_or("cc".to_string()))
+        .args(["-O2", "-std=c99", "-Wall", "-Wextra", "-pedantic", "-Werror", "-Iinclude", "-o"])
+        .arg(&program)
+        .args([&format!("examples/{name}.c"), "target/lib/liblyndon.a"])
+        .current_dir(root())
+        .status()
+        .unwrap();
+    assert!(status.success());
+    program
+}
 
 fn run(program: &Path, text: &str) -> (String, Option<i32>) {
     let output = Command::new(program).arg(text).output().unwrap();
@@ -9,17 +27,7 @@ fn run(program: &Path, text: &str) -> (String, Option<i32>) {
 
 #[test]
 fn runs_of_a_text() {
-    let root = Path::new(env!("CARGO_MANIFEST_DIR")).join("..");
-    let program = Path::new(env!("CARGO_TARGET_TMPDIR")).join("runs");
-    let status = Command::new(std::env::var("CC").unwrap_or("cc".to_string()))
-        .args(["-O2", "-std=c99", "-Wall", "-Wextra", "-pedantic", "-Werror", "-Iinclude", "-o"])
-        .arg(&program)
-        .args(["examples/runs.c", "target/lib/liblyndon.a"])
-        .current_dir(&root)
-        .status()
-        .unwrap();
-    assert!(status.success());
-
+    let program = built("runs");
     let (out, code) = run(&program, "mississippi");
     let want = "4 runs\n\
         1 to 7, period 3: ississi\n\
@@ -31,4 +39,18 @@ fn runs_of_a_text() {
     assert_eq!((&out[..], code), (want, Some(0)));
     assert_eq!(run(&program, "a"), ("0 runs\nrising Lyndon array: 1\nfalling Lyndon array: 1\n".to_string(), Some(0)));
     assert_eq!(run(&program, ""), ("refused 1 at 0\n".to_string(), Some(1)));
+}
+
+/// It prints what examples/README.md shows.
+#[test]
+fn arrays_of_two_groups() {
+    let readme = std::fs::read_to_string(root().join("examples/README.md")).unwrap();
+    let (_, shown) = readme.split_once("    $ ./target/examples/two_groups GATTaca\n").unwrap();
+    let shown: Vec<&str> = shown.lines().map_while(|line| line.strip_prefix("    ")).collect();
+    assert_eq!(shown.len(), 10);
+    let program = built("two_groups");
+    assert_eq!(run(&program, "GATTaca"), (shown.join("\n") + "\n", Some(0)));
+    // A table that is not written is told before a text that is empty.
+    let (out, code) = run(&program, "");
+    assert_eq!((out.matches("refused 22\n").count(), out.matches("refused 1\n").count(), code), (2, 5, Some(0)));
 }

@@ -224,6 +224,45 @@ fn tables_that_no_order_looks_at() {
     }
 }
 
+/// The calls of a store: the table that is written, the text and every buffer guarded, exactly as long as needed, then one place short.
+fn check_store(x: &[u8], ranks: &[u8], side: Side) {
+    let own = ffi::TableName { group: 2, built_in: 0, number: 1 };
+    let mut store = ffi::store_new();
+    for entries in [0, 255, 256, 257] {
+        let mut table = Guarded::new(&ranks[..entries], side);
+        let written = ffi::store_write(&store, own.group, own.number, table.slice());
+        assert_eq!(written.answer.number, if entries == 256 { 0 } else { 16 });
+        store = written.store;
+    }
+    for places in [0, 255, 256] {
+        let lent = vec![9; places];
+        let mut out = Guarded::new(&lent, side);
+        let answer = ffi::store_read(&store, own, out.slice());
+        assert_eq!((answer.number, &*out.slice()), if places == 256 { (0, &ranks[..256]) } else { (4, &lent[..]) });
+    }
+    let mut text = Guarded::new(x, side);
+    for (by, missing) in common::TABLE_USES.iter().flat_map(|by| [[0, 0], [1, 0], [0, 1]].map(|missing| (by, missing))) {
+        let needs = (by.needs)(x.len());
+        let lent = [0, 1].map(|b| vec![9; needs[b].saturating_sub(missing[b])]);
+        let [mut first, mut second] = [0, 1].map(|b| Guarded::new(&lent[b], side));
+        let [mut want_first, mut want_second] = lent;
+        let got = (by.by_store)(&store, own, text.slice(), first.slice(), second.slice());
+        let want = (by.by_table)(x, &ranks[..256], &mut want_first, &mut want_second);
+        assert_eq!((got, first.slice(), second.slice()), (want, &mut want_first[..], &mut want_second[..]), "{}, {side:?}, {x:?}", by.name);
+    }
+}
+
+#[test]
+fn tables_of_a_store() {
+    let mut numbers = Numbers::new(24);
+    for _ in 0..200 {
+        let n = numbers.below(20);
+        let (x, ranks) = (numbers.text(b"aAbB", n), numbers.text(&[0, 1, 255], 257));
+        check_store(&x, &ranks, Side::End);
+        check_store(&x, &ranks, Side::Start);
+    }
+}
+
 /// The calls that take an array, valid or not.
 fn check_array(entries: &[u32], side: Side) {
     let n = entries.len();

@@ -30,7 +30,7 @@ fn calls(compiler: &str, variable: &str, words: &[&str]) {
     assert!(status.success());
     let output = Command::new(&program).output().unwrap();
     assert_eq!(String::from_utf8_lossy(&output.stderr), "");
-    assert_eq!((output.status.code(), String::from_utf8_lossy(&output.stdout).as_ref()), (Some(0), "111 calls\n"));
+    assert_eq!((output.status.code(), String::from_utf8_lossy(&output.stdout).as_ref()), (Some(0), "266 calls\n"));
 }
 
 #[test]
@@ -48,15 +48,15 @@ fn as_cpp() {
 fn every_function_is_called() {
     let read = |path: &str| std::fs::read_to_string(root().join(path)).unwrap();
     let (header, exports, calls) = (read("include/lyndon.h"), read("crates/lyndon_c/src/lib.rt"), read("rust/tests/interface/calls.c"));
-    let names = |text: &str, before: &str| -> Vec<String> {
-        let mut names: Vec<String> =
-            text.lines().filter_map(|line| line.strip_prefix(before)).map(|rest| rest.split('(').next().unwrap().to_string()).collect();
+    let names = |text: &str, before: &[&str]| -> Vec<String> {
+        let declared = text.lines().filter_map(|line| before.iter().find_map(|words| line.strip_prefix(words)));
+        let mut names: Vec<String> = declared.map(|rest| rest.split('(').next().unwrap().to_string()).collect();
         names.sort();
         names
     };
-    let exported = names(&exports, "pub extern \"C\" fn ");
-    assert_eq!(exported.len(), 14);
-    assert_eq!(names(&header, "lyndon_answer "), exported);
+    let exported = names(&exports, &["pub extern \"C\" fn "]);
+    assert_eq!(exported.len(), 22);
+    assert_eq!(names(&header, &["lyndon_answer ", "lyndon_store ", "lyndon_store_written "]), exported);
     for name in exported {
         assert!(calls.contains(&format!("{name}(")), "{name} is not called");
     }

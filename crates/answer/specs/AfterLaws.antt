@@ -32,6 +32,10 @@ pub content-accepted : (a : Answer) (count : ℕ) {comparisons : ℕ} → a ≡ 
     after ≡ written l before → after ≡ contentAfter a l before
 content-accepted a count e l before after h = outcome-accepted (a .outcome) count (ap (λ (b : Answer). b .outcome) e) l before after h
 
+-- What a buffer holds after an answer, it holds after an equal one.
+pub content-handed-on : (a b : Answer) (l before after : List ℕ) → a ≡ b → after ≡ contentAfter a l before → after ≡ contentAfter b l before
+content-handed-on a b l before after q h = h ∙ ap (λ (t : Answer). contentAfter t l before) q
+
 module _ (r : Answer) (count n : ℕ) (l before : List ℕ) {comparisons : ℕ} (accepted : r ≡ acceptedAfter count comparisons) (size : length l ≡ n) where
   -- The first n places, for what has n numbers.
   pub written-first : take n (contentAfter r l before) ≡ l

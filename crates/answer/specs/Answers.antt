@@ -5,13 +5,13 @@ use mathlib.Core.Bool.{Bool, cond}
 use mathlib.Core.List.{List, [], _∷_}
 use Prim.Native.Nat.{ℕ, zero, suc}
 use native.Mathlib.Omega.{arith}
-use lib.ListN.{getD}
+use lib.Dec.{eqb}
 use Rattle.answer.specs.declared.Answer.{Answer}
 use Rattle.answer.specs.declared.Outcome.{Outcome}
 use Rattle.answer.specs.declared.Outcome.the-variants.{Accepted, Refused}
 use Rattle.answer.specs.declared.Reason.{Reason}
 use Rattle.answer.specs.declared.Reason.the-variants.{EmptyText, TextTooLong, UnknownOrder, ShortOutput, ShortWork, ZeroEntry, LongEntry, CrossingSpans}
-use Rattle.answer.specs.declared.Reason.the-variants.{NoHeader, BadName, UnfitByte, SecondRecord, NoLetters, TooManyLetters, FileTooLong, WrongTable}
+use Rattle.answer.specs.declared.Reason.the-variants.{NoHeader, BadName, UnfitByte, SecondRecord, NoLetters, TooManyLetters, FileTooLong, WrongTable, UnknownTable, UnwrittenTable}
 use Rattle.answer.specs.Reasons.{numberOf}
 
 -- Accepted, with its count and the letter comparisons that were counted (document 02, E7).
@@ -61,12 +61,17 @@ comparisons a = comparisonsIn (a .outcome)
 abbrev pub reasons : List Reason
 reasons =
     EmptyText ∷ TextTooLong ∷ UnknownOrder ∷ ShortOutput ∷ ShortWork ∷ ZeroEntry ∷ LongEntry ∷ CrossingSpans ∷ NoHeader ∷ BadName ∷ UnfitByte ∷ SecondRecord ∷
-    NoLetters ∷ TooManyLetters ∷ FileTooLong ∷ WrongTable ∷ []
+    NoLetters ∷ TooManyLetters ∷ FileTooLong ∷ WrongTable ∷ UnknownTable ∷ UnwrittenTable ∷ []
 
--- The answer with this number, value and comparisons. Numbers above 16 belong to no answer, nor do comparisons where it refuses.
+-- The first reason of a list that has this number; where none has it, which is no answer's, the first of all.
+abbrev pub reasonIn : List Reason → ℕ → Reason
+reasonIn [] n = EmptyText
+reasonIn (reason ∷ others) n = cond (eqb (numberOf reason) n) reason (reasonIn others n)
+
+-- The answer with this number, value and comparisons. Other numbers than those of the reasons belong to no answer, nor do comparisons where it refuses.
 abbrev pub answerWith : ℕ → ℕ → ℕ → Answer
 answerWith zero v q = acceptedAfter v q
-answerWith (suc k) v q = refusedFor (getD reasons k EmptyText) v
+answerWith (suc k) v q = refusedFor (reasonIn reasons (suc k)) v
 
 outcome-told : (o : Outcome) → answerWith (numberIn o) (valueIn o) (comparisonsIn o) ≡ record { outcome = o }
 outcome-told (Accepted count comparisons) = refl
@@ -86,6 +91,8 @@ outcome-told (Refused NoLetters p) = refl
 outcome-told (Refused TooManyLetters p) = refl
 outcome-told (Refused FileTooLong p) = refl
 outcome-told (Refused WrongTable p) = refl
+outcome-told (Refused UnknownTable p) = refl
+outcome-told (Refused UnwrittenTable p) = refl
 
 -- Number, value and comparisons tell the whole answer: two answers that have all three in common are equal.
 pub answer-told : (a b : Answer) → number a ≡ number b → value a ≡ value b → comparisons a ≡ comparisons b → a ≡ b

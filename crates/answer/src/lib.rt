@@ -40,8 +40,12 @@ pub enum Reason {
     TooManyLetters,
     // 15: the FASTA input is over 16,384 bytes.
     FileTooLong,
-    // 16: a rank table that is to be used hasn't 256 entries.
+    // 16: a rank table that is to be used, or to be written into a store, hasn't 256 entries.
     WrongTable,
+    // 21: a store has no such group, or no table of that number.
+    UnknownTable,
+    // 22: a group's own table is used before it was written.
+    UnwrittenTable,
 }
 
 // What a call makes of its input. Letter comparisons are counted by the factor list alone, any other
@@ -102,6 +106,8 @@ fn number_of(reason: Reason) -> u32
         Reason::TooManyLetters => 14,
         Reason::FileTooLong => 15,
         Reason::WrongTable => 16,
+        Reason::UnknownTable => 21,
+        Reason::UnwrittenTable => 22,
     }
 }
 

@@ -1,13 +1,21 @@
 -- What the checks of a call add, one after the other.
 -- Assumes nothing.
-use mathlib.Core.Bool.{true}
+use mathlib.Core.Bool.{Bool, true}
 use Prim.Native.Nat.{ℕ}
 use Rattle.checks.specs.declared.Check.{Check}
 use Rattle.checks.specs.declared.Check.the-variants.{Passed}
 use Rattle.answer.specs.Limits.{maxLength, maxLetters, runListLength, workLength, rankedOrder}
 use Rattle.checks.specs.Checks.{Adds, lengthChecked, orderChecked, outputChecked, workChecked, inputChecked, textChecked, orderedTextChecked, forestChecked, runsChecked, readerChecked}
 use Rattle.checks.specs.Checks.{tableChecked, rankedChecked, rankedTextChecked, rankedForestChecked, rankedRunsChecked, usesTable}
+use Rattle.checks.specs.Checks.{existenceChecked, usableChecked, tableUseChecked, tableWriteChecked}
 use Rattle.checks.specs.CheckLaws.{then}
+
+module _ {c₁ c₂ : Check} (there : Bool) (known : Adds Passed c₁ (existenceChecked there)) where
+  pub table-use-adds : (usable : Bool) → Adds c₁ c₂ (usableChecked usable) → Adds Passed c₂ (tableUseChecked there usable)
+  table-use-adds usable a = then known a
+
+  pub table-write-adds : (entries : ℕ) → Adds c₁ c₂ (tableChecked true entries) → Adds Passed c₂ (tableWriteChecked there entries)
+  table-write-adds entries a = then known a
 
 module _ {c₁ c₂ : Check} (n : ℕ) where
   pub text-adds : (given : ℕ) → Adds Passed c₁ (lengthChecked maxLength n) → Adds c₁ c₂ (outputChecked n given) →

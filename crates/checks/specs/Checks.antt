@@ -7,7 +7,7 @@ use lib.Dec.{ltb, eqb}
 use Rattle.answer.specs.declared.Answer.{Answer}
 use Rattle.checks.specs.declared.Check.{Check}
 use Rattle.checks.specs.declared.Check.the-variants.{Passed, Failed}
-use Rattle.answer.specs.declared.Reason.the-variants.{EmptyText, TextTooLong, UnknownOrder, ShortOutput, ShortWork, FileTooLong, WrongTable}
+use Rattle.answer.specs.declared.Reason.the-variants.{EmptyText, TextTooLong, UnknownOrder, ShortOutput, ShortWork, FileTooLong, WrongTable, UnknownTable, UnwrittenTable}
 use Rattle.answer.specs.Answers.{refusedFor, refusedIf}
 use Rattle.answer.specs.Limits.{maxLength, maxLetters, maxInput, runListLength, workLength, rankedOrder, tableLength}
 
@@ -34,6 +34,14 @@ usesTable order = eqb order rankedOrder
 -- Refusal 16: a rank table that is used has 256 entries.
 abbrev pub tableChecked : Bool → ℕ → Answer → Answer
 tableChecked used entries = refusedIf (used && not (eqb entries tableLength)) WrongTable 0
+
+-- Refusal 21: the table of a store that a call names exists, and its group does (document 02, E9).
+abbrev pub existenceChecked : Bool → Answer → Answer
+existenceChecked exists = refusedIf (not exists) UnknownTable 0
+
+-- Refusal 22: it can be used, being a built-in table or one that was written (document 02, E9).
+abbrev pub usableChecked : Bool → Answer → Answer
+usableChecked usable = refusedIf (not usable) UnwrittenTable 0
 
 -- Refusal 4: an output buffer that has `given` places and needs `needed`.
 abbrev pub outputChecked : ℕ → ℕ → Answer → Answer
@@ -79,6 +87,14 @@ runsChecked n list work rest = lengthChecked maxLength n (outputChecked (runList
 abbrev pub rankedRunsChecked : ℕ → ℕ → ℕ → ℕ → Answer → Answer
 rankedRunsChecked n entries list work rest =
     lengthChecked maxLength n (tableChecked true entries (outputChecked (runListLength n) list (workChecked (workLength n) work rest)))
+
+-- 21 and 22: a call that uses or reads a table of a store.
+abbrev pub tableUseChecked : Bool → Bool → Answer → Answer
+tableUseChecked exists usable rest = existenceChecked exists (usableChecked usable rest)
+
+-- 21 and 16: a call that writes a table of a store.
+abbrev pub tableWriteChecked : Bool → ℕ → Answer → Answer
+tableWriteChecked exists entries rest = existenceChecked exists (tableChecked true entries rest)
 
 -- 4 and 15: the reader, on an input of n bytes.
 abbrev pub readerChecked : ℕ → ℕ → Answer → Answer

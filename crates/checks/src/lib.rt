@@ -8,6 +8,7 @@ ghost use Rattle.answer.specs.Answers.{refusedIf};
 ghost use Rattle.checks.specs.Checks.{Adds, emptyChecked, limitChecked, lengthChecked, orderChecked, outputChecked, workChecked};
 ghost use Rattle.checks.specs.Checks.{inputChecked, textChecked, orderedTextChecked, forestChecked, runsChecked, readerChecked};
 ghost use Rattle.checks.specs.Checks.{tableChecked, rankedChecked, rankedTextChecked, rankedForestChecked, rankedRunsChecked};
+ghost use Rattle.checks.specs.Checks.{existenceChecked, usableChecked, tableUseChecked, tableWriteChecked};
 ghost use Rattle.checks.specs.declared.Check.the-variants.{Passed};
 
 // What the checks so far say.
@@ -92,6 +93,22 @@ pub fn ranked_runs(n: usize, entries: usize, list: usize, buffer: usize) -> Chec
     run_work(run_list(ranked, n, list), n, buffer)
 }
 
+// 21 and 22: a call that uses or reads a table of a store.
+pub fn table_use(there: bool, usable: bool) -> Check
+    ensures check { λ r. ⌜ Adds Passed r (tableUseChecked there usable) ⌝ }
+{
+    let known = existence(Check::Passed, there);
+    usability(known, usable)
+}
+
+// 21 and 16: a call that writes a table of a store.
+pub fn table_write(there: bool, entries: usize) -> Check
+    ensures check { λ r. ⌜ Adds Passed r (tableWriteChecked there entries) ⌝ }
+{
+    let named = existence(Check::Passed, there);
+    table(named, true, entries)
+}
+
 // 4 and 15: the reader, on an input of n bytes.
 pub fn reader(n: usize, given: usize) -> Check
     ensures check { λ r. ⌜ Adds Passed r (readerChecked n given) ⌝ }
@@ -161,6 +178,20 @@ fn table(earlier: Check, used: bool, entries: usize) -> Check
     } else {
         earlier
     }
+}
+
+// 21: the table of a store that a call names exists.
+fn existence(earlier: Check, there: bool) -> Check
+    ensures check { λ r. ⌜ Adds earlier r (existenceChecked there) ⌝ }
+{
+    refuse_if(earlier, !there, Reason::UnknownTable, 0)
+}
+
+// 22: it is a built-in table, or was written.
+fn usability(earlier: Check, usable: bool) -> Check
+    ensures check { λ r. ⌜ Adds earlier r (usableChecked usable) ⌝ }
+{
+    refuse_if(earlier, !usable, Reason::UnwrittenTable, 0)
 }
 
 // 4: an output buffer has the places needed.

@@ -2,9 +2,10 @@
 // A slice is a pointer and a length in C; that pointers are valid for their lengths, and that a buffer which is written overlaps no other
 // buffer of the call, is the C caller's part.
 use answer::Answer;
+use table_store::store::TableStore;
 ghost use mathlib.Core.Path.{_≡_};
 ghost use lib.ListN.{length};
-ghost use Rattle.lyndon_c.specs.Record.{recordOf};
+ghost use Rattle.lyndon_c.specs.Record.{recordOf, isBuiltIn};
 ghost use Rattle.array.specs.Calls.{arrayAnswer, arrayRankedAnswer, runsAnswer, runsRankedAnswer};
 ghost use Rattle.array.specs.Theorems.{arrayAfter, listAfter, workAfter};
 ghost use Rattle.array.specs.RankTheorems.{arrayRankedAfter, listRankedAfter, workRankedAfter};
@@ -15,6 +16,11 @@ ghost use Rattle.left_forest.specs.Theorems.{leftFirstAfter, leftPastAfter, lef
 ghost use Rattle.from_array.specs.Answers.{reconstructAnswer, rightForestAnswer};
 ghost use Rattle.from_array.specs.Theorems.{textAfter, rightFirstAfter, rightPastAfter};
 ghost use Rattle.fasta.specs.Reader.{readerAnswer, lettersAfter};
+ghost use Rattle.table_store.specs.Store.{newStore, lookup};
+ghost use Rattle.table_store.specs.Calls.{writeAnswer, storeAfter, readAnswer, readAfter, arrayStoredAnswer, arrayStoredAfter};
+ghost use Rattle.table_store.specs.Calls.{factorizationStoredAnswer, factorsStoredAfter, suffixTableStoredAnswer, suffixTableStoredAfter};
+ghost use Rattle.table_store.specs.Calls.{leftForestStoredAnswer, leftFirstStoredAfter, leftPastStoredAfter};
+ghost use Rattle.table_store.specs.Calls.{runsStoredAnswer, listStoredAfter, workStoredAfter};
 
 // An answer as C has it: number 0, the count and the letter comparisons that were counted, or the
 // refusal's number, the position and 0.
@@ -23,6 +29,13 @@ pub struct LyndonAnswer {
     pub number: u32,
     pub value: u32,
     pub comparisons: u32,
+}
+
+// A store and the answer of the call that wrote into it, as C has them.
+#[repr(C)]
+pub struct LyndonStoreWritten {
+    pub store: TableStore,
+    pub answer: LyndonAnswer,
 }
 
 fn exported(a: Answer) -> LyndonAnswer
@@ -198,4 +211,146 @@ pub extern "C" fn lyndon_read_fasta(input: &[u8], letters: &mut [u8]) -> LyndonA
     ensures content { λ r. ⌜ now (letters .exit) ≡ lettersAfter (now (input .entry)) (now (letters .entry)) ⌝ }
 {
     exported(fasta::read(input, letters))
+}
+
+// A store in which no table is written.
+#[no_mangle]
+pub extern "C" fn lyndon_store_new() -> TableStore
+    ensures store { λ r. ⌜ r ≡ newStore ⌝ }
+{
+    table_store::store::new_store()
+}
+
+// Replaces a group's own table.
+#[no_mangle]
+pub extern "C" fn lyndon_store_write(
+    store: TableStore,
+    group: u32,
+    number: u32,
+    table: &[u8],
+) -> LyndonStoreWritten
+    ensures answer { λ r. ⌜ r .answer ≡ recordOf (writeAnswer group number (length (now (table .entry)))) ⌝ }
+    ensures store { λ r. ⌜ r .store ≡ storeAfter store group number (now (table .entry)) ⌝ }
+{
+    let written = table_store::store::write_table(store, group, number, table);
+    let after = written.store;
+    let told = written.answer;
+    LyndonStoreWritten {
+        store: after,
+        answer: exported(told),
+    }
+}
+
+// Reads a table back, a group's own or a built-in one.
+#[no_mangle]
+pub extern "C" fn lyndon_store_read(
+    store: TableStore,
+    group: u32,
+    builtin: u32,
+    number: u32,
+    out: &mut [u8],
+) -> LyndonAnswer
+    ensures answer { λ r. ⌜ r ≡ recordOf (readAnswer (lookup store group (isBuiltIn builtin) number) (length (now (out .entry)))) ⌝ }
+    ensures content { λ r. ⌜ now (out .exit) ≡ readAfter (lookup store group (isBuiltIn builtin) number) (now (out .entry)) ⌝ }
+{
+    exported(table_store::store::read_table(store, group, builtin != 0, number, out))
+}
+
+// The Lyndon array of a text of bytes, by a table of a store.
+#[no_mangle]
+pub extern "C" fn lyndon_store_array(
+    store: TableStore,
+    group: u32,
+    builtin: u32,
+    number: u32,
+    text: &[u8],
+    out: &mut [u32],
+) -> LyndonAnswer
+    ensures answer { λ r. ⌜ r ≡ recordOf (arrayStoredAnswer (lookup store group (isBuiltIn builtin) number) (now (text .entry)) (length (now (out .entry)))) ⌝ }
+    ensures content { λ r. ⌜ now (out .exit) ≡ arrayStoredAfter (lookup store group (isBuiltIn builtin) number) (now (text .entry)) (now (out .entry)) ⌝ }
+{
+    exported(table_store::calls::lyndon_array_stored(store, group, builtin != 0, number, text, out))
+}
+
+// The starts of its Lyndon factors, likewise.
+#[no_mangle]
+pub extern "C" fn lyndon_store_factorization(
+    store: TableStore,
+    group: u32,
+    builtin: u32,
+    number: u32,
+    text: &[u8],
+    out: &mut [u32],
+) -> LyndonAnswer
+    ensures answer { λ r. ⌜ r ≡ recordOf (factorizationStoredAnswer (lookup store group (isBuiltIn builtin) number) (now (text .entry)) (length (now (out .entry)))) ⌝ }
+    ensures content { λ r. ⌜ now (out .exit) ≡ factorsStoredAfter (lookup store group (isBuiltIn builtin) number) (now (text .entry)) (now (out .entry)) ⌝ }
+{
+    exported(table_store::calls::factorization_stored(
+        store,
+        group,
+        builtin != 0,
+        number,
+        text,
+        out,
+    ))
+}
+
+// Its Lyndon suffix table, likewise.
+#[no_mangle]
+pub extern "C" fn lyndon_store_suffix_table(
+    store: TableStore,
+    group: u32,
+    builtin: u32,
+    number: u32,
+    text: &[u8],
+    out: &mut [u32],
+) -> LyndonAnswer
+    ensures answer { λ r. ⌜ r ≡ recordOf (suffixTableStoredAnswer (lookup store group (isBuiltIn builtin) number) (now (text .entry)) (length (now (out .entry)))) ⌝ }
+    ensures content { λ r. ⌜ now (out .exit) ≡ suffixTableStoredAfter (lookup store group (isBuiltIn builtin) number) (now (text .entry)) (now (out .entry)) ⌝ }
+{
+    exported(table_store::calls::suffix_table_stored(store, group, builtin != 0, number, text, out))
+}
+
+// Its left Lyndon forest, likewise.
+#[no_mangle]
+pub extern "C" fn lyndon_store_left_forest(
+    store: TableStore,
+    group: u32,
+    builtin: u32,
+    number: u32,
+    text: &[u8],
+    first: &mut [u32],
+    past: &mut [u32],
+) -> LyndonAnswer
+    ensures answer { λ r. ⌜ r ≡ recordOf (leftForestStoredAnswer (lookup store group (isBuiltIn builtin) number) (now (text .entry)) (length (now (first .entry))) (length (now (past .entry)))) ⌝ }
+    ensures starts { λ r. ⌜ now (first .exit) ≡ leftFirstStoredAfter (lookup store group (isBuiltIn builtin) number) (now (text .entry)) (now (first .entry)) (now (past .entry)) ⌝ }
+    ensures ends { λ r. ⌜ now (past .exit) ≡ leftPastStoredAfter (lookup store group (isBuiltIn builtin) number) (now (text .entry)) (now (first .entry)) (now (past .entry)) ⌝ }
+{
+    exported(table_store::calls::left_forest_stored(
+        store,
+        group,
+        builtin != 0,
+        number,
+        text,
+        first,
+        past,
+    ))
+}
+
+// All its runs, likewise.
+#[no_mangle]
+pub extern "C" fn lyndon_store_runs(
+    store: TableStore,
+    group: u32,
+    builtin: u32,
+    number: u32,
+    text: &[u8],
+    work: &mut [u32],
+    list: &mut [u32],
+) -> LyndonAnswer
+    ensures answer { λ r. ⌜ r ≡ recordOf (runsStoredAnswer (lookup store group (isBuiltIn builtin) number) (now (text .entry)) (length (now (work .entry))) (length (now (list .entry)))) ⌝ }
+    ensures entries { λ r. ⌜ now (list .exit) ≡ listStoredAfter (lookup store group (isBuiltIn builtin) number) (now (text .entry)) (now (work .entry)) (now (list .entry)) ⌝ }
+    ensures arrays { λ r. ⌜ now (work .exit) ≡ workStoredAfter (lookup store group (isBuiltIn builtin) number) (now (text .entry)) (now (work .entry)) (now (list .entry)) ⌝ }
+{
+    exported(table_store::calls::runs_stored(store, group, builtin != 0, number, text, work, list))
 }

@@ -4,7 +4,7 @@
 pub mod json;
 pub mod lister;
 
-use crate::definitions::Expected;
+use crate::definitions::{list_length, Expected};
 use lyndon::Error;
 use std::fmt::Debug;
 
@@ -94,7 +94,7 @@ pub fn compare_all<T: Filler, C: Copy + PartialEq + Debug>(what: &str, got: Resu
 }
 
 /// Makes a call, and holds its input to what it was before.
-fn kept<T: Copy + PartialEq, R>(input: &[T], call: impl FnOnce() -> R) -> R {
+pub fn kept<T: Copy + PartialEq, R>(input: &[T], call: impl FnOnce() -> R) -> R {
     let before = input.to_vec();
     let got = call();
     assert!(std::hint::black_box(input) == before, "a call has changed its input");
@@ -186,6 +186,54 @@ pub fn read_fasta(input: &[u8], letters: &mut [u8]) -> Result<usize, Error> {
     fill(letters);
     kept(input, || result(ffi::read_fasta(input, letters)))
 }
+
+/// A use of a table of a store: store, table, text, two buffers. What writes one buffer has no need of the second.
+pub type ByStore = fn(&ffi::Store, ffi::TableName, &[u8], &mut [u32], &mut [u32]) -> ffi::Answer;
+
+/// The ranked call that does the same in order 2: text, table, two buffers.
+pub type ByTable = fn(&[u8], &[u8], &mut [u32], &mut [u32]) -> ffi::Answer;
+
+pub struct TableUse {
+    pub name: &'static str,
+    pub by_store: ByStore,
+    pub by_table: ByTable,
+    /// The places of each buffer that `n` letters need.
+    pub needs: fn(usize) -> [usize; 2],
+    /// The refusal where a buffer has fewer.
+    pub short: [u32; 2],
+}
+
+pub static TABLE_USES: [TableUse; 5] = [
+    TableUse {
+        name: "array",
+        by_store: |store, name, text, out, _| ffi::store_array(store, name, text, out),
+        by_table: |text, table, out, _| ffi::array_ranked(text, 2, table, out),
+        needs: |n| [n, 0],
+        short: [4, 4],
+    },
+    TableUse {
+        name: "factors",
+        by_store: |store, name, text, out, _| ffi::store_factorization(store, name, text, out),
+        by_table: |text, table, out, _| ffi::factorization_ranked(text, 2, table, out),
+        needs: |n| [n, 0],
+        short: [4, 4],
+    },
+    TableUse {
+        name: "suffix table",
+        by_store: |store, name, text, out, _| ffi::store_suffix_table(store, name, text, out),
+        by_table: |text, table, out, _| ffi::suffix_table_ranked(text, 2, table, out),
+        needs: |n| [n, 0],
+        short: [4, 4],
+    },
+    TableUse {
+        name: "left forest",
+        by_store: ffi::store_left_forest,
+        by_table: |text, table, first, past| ffi::left_forest_ranked(text, 2, table, first, past),
+        needs: |n| [n, n],
+        short: [4, 4],
+    },
+    TableUse { name: "runs", by_store: ffi::store_runs, by_table: ffi::runs_ranked, needs: |n| [2 * n, list_length(n)], short: [5, 4] },
+];
 
 // Texts
 

@@ -13,6 +13,7 @@
 
 static uint8_t text[PLACES], text_before[PLACES], letters[LETTERS + 4], ranks[256], ranks_before[256];
 static uint32_t numbers[PLACES], numbers_before[PLACES], first[PLACES], second[PLACES];
+static lyndon_store store, store_before;
 static unsigned calls;
 
 static void fail(const char *what) {
@@ -32,6 +33,7 @@ static void start(const uint32_t *content, size_t n) {
     memset(ranks, 2, sizeof ranks);
     ranks['b'] = ranks['B'] = 0, ranks['a'] = ranks['A'] = 1;
     memcpy(ranks_before, ranks, sizeof ranks);
+    store_before = store;
     memcpy(text_before, text, sizeof text);
     memcpy(numbers_before, numbers, sizeof numbers);
 }
@@ -53,7 +55,7 @@ static void answered_all(lyndon_answer answer, uint32_t number, uint32_t value, 
         exit(1);
     }
     if (memcmp(text, text_before, sizeof text) != 0 || memcmp(numbers, numbers_before, sizeof numbers) != 0 ||
-        memcmp(ranks, ranks_before, sizeof ranks) != 0)
+        memcmp(ranks, ranks_before, sizeof ranks) != 0 || memcmp(&store, &store_before, sizeof store) != 0)
         fail("an input has changed");
 }
 
@@ -77,6 +79,23 @@ static void refused_ranked(const uint8_t *x, size_t n, uint32_t order, const uin
     answered(lyndon_left_forest_ranked(x, n, order, table, table_len, second, PLACES, out, out_len), number, 0);
 }
 
+/* The uses of a table of the store, all refused with one number. */
+static void refused_uses(uint32_t group, uint32_t built_in, uint32_t table, const uint8_t *x, size_t n, uint32_t *out, size_t out_len,
+    uint32_t number) {
+    answered(lyndon_store_array(store, group, built_in, table, x, n, out, out_len), number, 0);
+    answered(lyndon_store_factorization(store, group, built_in, table, x, n, out, out_len), number, 0);
+    answered(lyndon_store_suffix_table(store, group, built_in, table, x, n, out, out_len), number, 0);
+    answered(lyndon_store_left_forest(store, group, built_in, table, x, n, out, out_len, second, PLACES), number, 0);
+    answered(lyndon_store_left_forest(store, group, built_in, table, x, n, second, PLACES, out, out_len), number, 0);
+    answered(lyndon_store_runs(store, group, built_in, table, x, n, first, PLACES, out, out_len), number, 0);
+}
+
+/* A write: the answer, and the store that it returns. */
+static void written(lyndon_store_written write, uint32_t number, uint32_t value, const lyndon_store *wanted) {
+    answered(write.answer, number, value);
+    if (memcmp(&write.store, wanted, sizeof write.store) != 0) fail("the store is not what it should be");
+}
+
 /* Every call on a text or an array of no elements, all pointers null. */
 static void of_nothing(void) {
     start(NULL, 0);
@@ -94,6 +113,9 @@ static void of_nothing(void) {
     answered(lyndon_runs_ranked(NULL, 0, NULL, 0, NULL, 0, NULL, 0), 1, 0);
     answered(lyndon_read_fasta(NULL, 0, NULL, 0), 4, 0);
     answered(lyndon_read_fasta(NULL, 0, letters, sizeof letters), 9, 0);
+    written(lyndon_store_write(store, 1, 0, NULL, 0), 16, 0, &store);
+    answered(lyndon_store_read(store, 1, 1, 0, NULL, 0), 4, 0);
+    refused_uses(1, 1, 0, NULL, 0, NULL, 0, 1);
     holds(first, NULL, 0);
     holds(second, NULL, 0);
 }
@@ -121,6 +143,8 @@ static void into_nothing(void) {
     answered(lyndon_runs_ranked(text, 6, NULL, 0, NULL, 0, NULL, 0), 16, 0);
     answered(lyndon_runs_ranked(text, 6, ranks, 256, first, PLACES, NULL, 0), 4, 0);
     answered(lyndon_runs_ranked(text, 6, ranks, 256, NULL, 0, second, PLACES), 5, 0);
+    refused_uses(2, 1, 1, text, 6, NULL, 0, 4);
+    answered(lyndon_store_runs(store, 2, 1, 1, text, 6, NULL, 0, second, PLACES), 5, 0);
     holds(first, NULL, 0);
     holds(second, NULL, 0);
 }
@@ -177,33 +201,130 @@ static void run_lists(void) {
     holds(first, ones, 2);
 }
 
+/* What the calls by rank write for aAbaAB: array, factors, suffix table, left forest; the two arrays in work, and the runs. */
+static const uint32_t ranked_array[] = {1, 1, 3, 1, 1, 1}, ranked_starts[] = {0, 1, 2, 5}, ranked_table[] = {1, 1, 1, 2, 3, 1};
+static const uint32_t ranked_first[] = {0, 1, 2, 2, 2, 5}, ranked_past[] = {0, 1, 2, 4, 5, 5};
+static const uint32_t ranked_work[] = {1, 1, 3, 1, 1, 1, 3, 2, 1, 3, 2, 1}, ranked_runs[] = {0, 1, 1, 0, 5, 3, 3, 4, 1};
+
 /* The ranked calls on two texts that have one answer: by rank the first is a text of two letters, b before a, as the second is in falling
  * order, with no table. */
 static void of_ranked_texts(void) {
     static const struct { const char *content; uint32_t order; const uint8_t *table; size_t table_len; } ways[] = {
         {"aAbaAB", LYNDON_RANKED, ranks, 256}, {"aabaab", LYNDON_FALLING, NULL, 0}};
-    static const uint32_t array[] = {1, 1, 3, 1, 1, 1}, starts[] = {0, 1, 2, 5}, table[] = {1, 1, 1, 2, 3, 1};
-    static const uint32_t left_first[] = {0, 1, 2, 2, 2, 5}, left_past[] = {0, 1, 2, 4, 5, 5};
-    static const uint32_t both[] = {1, 1, 3, 1, 1, 1, 3, 2, 1, 3, 2, 1}, runs[] = {0, 1, 1, 0, 5, 3, 3, 4, 1};
     for (size_t w = 0; w < sizeof ways / sizeof ways[0]; w++) {
         start_text(ways[w].content);
         answered(lyndon_array_ranked(text, 6, ways[w].order, ways[w].table, ways[w].table_len, first, PLACES), 0, 6);
-        holds(first, array, 6);
+        holds(first, ranked_array, 6);
         start_text(ways[w].content);
         listed(lyndon_factorization_ranked(text, 6, ways[w].order, ways[w].table, ways[w].table_len, first, PLACES), 4, 5);
-        holds(first, starts, 4);
+        holds(first, ranked_starts, 4);
         start_text(ways[w].content);
         answered(lyndon_suffix_table_ranked(text, 6, ways[w].order, ways[w].table, ways[w].table_len, first, PLACES), 0, 6);
-        holds(first, table, 6);
+        holds(first, ranked_table, 6);
         start_text(ways[w].content);
         answered(lyndon_left_forest_ranked(text, 6, ways[w].order, ways[w].table, ways[w].table_len, first, PLACES, second, PLACES), 0, 6);
-        holds(first, left_first, 6);
-        holds(second, left_past, 6);
+        holds(first, ranked_first, 6);
+        holds(second, ranked_past, 6);
     }
     start_text(ways[0].content);
     answered(lyndon_runs_ranked(text, 6, ranks, 256, first, PLACES, second, PLACES), 0, 3);
-    holds(first, both, 12);
-    holds(second, runs, 9);
+    holds(first, ranked_work, 12);
+    holds(second, ranked_runs, 9);
+}
+
+/* A new store has no byte but 0. A table of a group is refused until it is written; then it stands in its place, and nowhere else. */
+static void of_a_store(void) {
+    /* Own table 1 of group 2 is the fifth of six. */
+    static const size_t place = 4;
+    static const uint32_t unknown[][3] = {
+        {0, 0, 0}, {3, 0, 0}, {4294967295u, 0, 0}, {1, 0, 3}, {2, 0, 4294967295u}, {1, 1, 2}, {2, 7, 2}, {0, 1, 0}, {3, 1, 1}};
+    lyndon_store expected;
+    memset(&expected, 0, sizeof expected);
+    memset(&store, 0xa5, sizeof store);
+    store = lyndon_store_new();
+    calls++;
+    if (sizeof store != 1542 || memcmp(&store, &expected, sizeof store) != 0) fail("a new store is not all zeros");
+
+    start_sample();
+    for (size_t u = 0; u < sizeof unknown / sizeof unknown[0]; u++) {
+        refused_uses(unknown[u][0], unknown[u][1], unknown[u][2], NULL, 0, NULL, 0, 21);
+        answered(lyndon_store_read(store, unknown[u][0], unknown[u][1], unknown[u][2], NULL, 0), 21, 0);
+        if (unknown[u][1] == 0) written(lyndon_store_write(store, unknown[u][0], unknown[u][2], NULL, 0), 21, 0, &store);
+    }
+    for (uint32_t t = 0; t < 6; t++) {
+        refused_uses(1 + t / 3, 0, t % 3, NULL, 0, NULL, 0, 22);
+        answered(lyndon_store_read(store, 1 + t / 3, 0, t % 3, NULL, 0), 22, 0);
+        written(lyndon_store_write(store, 1 + t / 3, t % 3, ranks, 255), 16, 0, &store);
+    }
+    holds(first, NULL, 0);
+    holds(second, NULL, 0);
+
+    memcpy(expected.tables + 256 * place, ranks, 256);
+    expected.written[place] = 1;
+    written(lyndon_store_write(store, 2, 1, ranks, 256), 0, 256, &expected);
+    store = expected;
+    start_sample();
+    written(lyndon_store_write(store, 2, 1, ranks, 257), 16, 0, &expected);
+    refused_uses(1, 0, 1, text, 6, first, PLACES, 22);
+    /* Any flag but 0 is for a table that is written. */
+    for (unsigned flag = 1; flag < 256; flag += 127) {
+        store.written[place] = (uint8_t)flag;
+        start_text("aAbaAB");
+        answered(lyndon_store_array(store, 2, 0, 1, text, 6, first, PLACES), 0, 6);
+        holds(first, ranked_array, 6);
+    }
+    start_text("aAbaAB");
+    listed(lyndon_store_factorization(store, 2, 0, 1, text, 6, first, PLACES), 4, 5);
+    holds(first, ranked_starts, 4);
+    start_text("aAbaAB");
+    answered(lyndon_store_suffix_table(store, 2, 0, 1, text, 6, first, PLACES), 0, 6);
+    holds(first, ranked_table, 6);
+    start_text("aAbaAB");
+    answered(lyndon_store_left_forest(store, 2, 0, 1, text, 6, first, PLACES, second, PLACES), 0, 6);
+    holds(first, ranked_first, 6);
+    holds(second, ranked_past, 6);
+    start_text("aAbaAB");
+    answered(lyndon_store_runs(store, 2, 0, 1, text, 6, first, PLACES, second, PLACES), 0, 3);
+    holds(first, ranked_work, 12);
+    holds(second, ranked_runs, 9);
+    /* By the built-in table that makes the two cases one, a comes before b. */
+    start_text("aAbaAB");
+    answered(lyndon_store_array(store, 1, 4294967295u, 1, text, 6, first, PLACES), 0, 6);
+    holds(first, ranked_work + 6, 6);
+
+    start_sample();
+    answered(lyndon_store_read(store, 2, 0, 1, letters, 255), 4, 0);
+    if (letters[0] != 0xa5) fail("a refusal has written a table");
+    answered(lyndon_store_read(store, 2, 0, 1, letters, sizeof letters), 0, 256);
+    if (memcmp(letters, ranks, 256) != 0 || letters[256] != 0xa5) fail("the table is not the one written");
+    for (uint32_t number = 0; number < 2; number++) {
+        answered(lyndon_store_read(store, 1, 1, number, letters, 256), 0, 256);
+        for (unsigned a = 0; a < 256; a++)
+            if (letters[a] != (number == 1 && a >= 'a' && a <= 'z' ? a - 'a' + 'A' : a)) fail("a built-in table is not by its rule");
+    }
+}
+
+/* A table and an out inside the store variable that the call is given: the call has a copy. */
+static void inside_a_store(void) {
+    lyndon_store_written own;
+    lyndon_store expected;
+    start_sample();
+    for (size_t i = 0; i < sizeof own.store.tables; i++) own.store.tables[i] = (uint8_t)(i % 251);
+    memset(own.store.written, 1, sizeof own.store.written);
+
+    /* Bytes 100 to 355 for the first table, and the store returned into the same variable. */
+    expected = own.store;
+    memcpy(expected.tables, own.store.tables + 100, 256);
+    own = lyndon_store_write(own.store, 1, 0, own.store.tables + 100, 256);
+    written(own, 0, 256, &expected);
+
+    /* The first table over bytes 100 to 355, then over the last 256, the flags among them. */
+    memcpy(expected.tables + 100, own.store.tables, 256);
+    answered(lyndon_store_read(own.store, 1, 0, 0, own.store.tables + 100, 256), 0, 256);
+    if (memcmp(&own.store, &expected, sizeof expected) != 0) fail("the table read is not in its place");
+    memcpy((uint8_t *)&expected + sizeof expected - 256, own.store.tables, 256);
+    answered(lyndon_store_read(own.store, 1, 0, 0, (uint8_t *)&own.store + sizeof own.store - 256, 256), 0, 256);
+    if (memcmp(&own.store, &expected, sizeof expected) != 0) fail("the table read is not in its place");
 }
 
 /* The factors of K6 of the specification, found with 18 comparisons: without ranks, and in each order. By rank, as in falling order, b
@@ -262,6 +383,8 @@ int main(void) {
     of_a_text();
     run_lists();
     of_ranked_texts();
+    of_a_store();
+    inside_a_store();
     factors_and_comparisons();
     forests_and_texts();
     of_a_record();

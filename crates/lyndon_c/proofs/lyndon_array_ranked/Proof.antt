@@ -1,6 +1,7 @@
 -- `lyndon_c::lyndon_array_ranked` meets its contract: the library's answer and buffer are handed on.
 -- Assumes nothing.
-use Rattle.lyndon_c.proofs.HandedOn.{answer-handed-on, content-handed-on}
+use Rattle.answer.specs.AfterLaws.{content-handed-on}
+use Rattle.lyndon_c.proofs.HandedOn.{answer-handed-on}
 use borrow.Author.Needs.{needs}
 use Rattle.lyndon_c.proofs.lyndon_array_ranked.Statement.{statement}
 use Rattle.lyndon_c.proofs.lyndon_array_ranked.Tie as tie

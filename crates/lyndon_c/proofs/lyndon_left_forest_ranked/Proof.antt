@@ -1,6 +1,7 @@
 -- `lyndon_c::lyndon_left_forest_ranked` meets its contract: the library's answer and buffers are handed on.
 -- Assumes nothing.
-use Rattle.lyndon_c.proofs.HandedOn.{answer-handed-on, content-handed-on}
+use Rattle.answer.specs.AfterLaws.{content-handed-on}
+use Rattle.lyndon_c.proofs.HandedOn.{answer-handed-on}
 use borrow.Author.Needs.{needs}
 use Rattle.lyndon_c.proofs.lyndon_left_forest_ranked.Statement.{statement}
 use Rattle.lyndon_c.proofs.lyndon_left_forest_ranked.Tie as tie
