@@ -107,7 +107,7 @@ impl TableStore {
         bytes
     }
 
-    /// The store that [`to_bytes`](Self::to_bytes) has as these bytes. Any bytes are a store: a table is written where its flag is not 0.
+    /// The store that [`to_bytes`](Self::to_bytes) gives as these bytes. Any bytes are a store: a table is written where its flag is not 0.
     pub fn from_bytes(bytes: [u8; TableStore::BYTES]) -> TableStore {
         let mut store = ffi::store_new();
         let (tables, written) = bytes.split_at(store.tables.len());

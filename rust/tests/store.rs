@@ -698,7 +698,7 @@ fn stores_as_bytes() {
     }
 }
 
-/// A handle that can write can also use and read; handles that only read can be copied, and both groups' be held at once.
+/// A handle that can write can also use and read; handles that only read can be copied, and those of both groups can be held at once.
 #[test]
 fn handles() {
     let mut store = TableStore::new();

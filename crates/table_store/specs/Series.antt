@@ -34,7 +34,7 @@ groupOf (write-table group number table) = group
 groupOf (use-table group builtin number task) = group
 
 -- What a call gives back: its answer, with count and comparisons, and what each buffer that it may write holds afterwards. The store that a
--- write gives back too, the other group's tables in it, is not among these: of that, a group's part is compared (`SamePart`).
+-- write gives back too, the other group's tables in it, is not among these: of that, a group's part is compared at the end of a series (`SamePart`).
 pub record Result : Type 0 where
   pub answer : Answer
   pub buffers : List (List ℕ)

@@ -1,7 +1,7 @@
 // The store: its layout, a new one, and its tables, written and read.
 //
-// Contracts cite `specs/Store.antt` and `specs/Calls.antt`; the clause `step` says the same as a step of a series (`specs/Series.antt`). Nothing is
-// assumed.
+// Contracts cite `specs/Store.antt` and `specs/Calls.antt`; the clauses `step` and `next` say the same as a step of a series
+// (`specs/Series.antt`). Nothing is assumed.
 use answer::Answer;
 use answer::Reason;
 use checks::Check;
