@@ -269,7 +269,7 @@ pub extern "C" fn lyndon_store_array(
     ensures answer { λ r. ⌜ r ≡ recordOf (arrayStoredAnswer (lookup store group (isBuiltIn builtin) number) (now (text .entry)) (length (now (out .entry)))) ⌝ }
     ensures content { λ r. ⌜ now (out .exit) ≡ arrayStoredAfter (lookup store group (isBuiltIn builtin) number) (now (text .entry)) (now (out .entry)) ⌝ }
 {
-    exported(table_store::calls::lyndon_array_stored(store, group, builtin != 0, number, text, out))
+    exported(stored_calls::lyndon_array_stored(store, group, builtin != 0, number, text, out))
 }
 
 // The starts of its Lyndon factors, likewise.
@@ -285,14 +285,7 @@ pub extern "C" fn lyndon_store_factorization(
     ensures answer { λ r. ⌜ r ≡ recordOf (factorizationStoredAnswer (lookup store group (isBuiltIn builtin) number) (now (text .entry)) (length (now (out .entry)))) ⌝ }
     ensures content { λ r. ⌜ now (out .exit) ≡ factorsStoredAfter (lookup store group (isBuiltIn builtin) number) (now (text .entry)) (now (out .entry)) ⌝ }
 {
-    exported(table_store::calls::factorization_stored(
-        store,
-        group,
-        builtin != 0,
-        number,
-        text,
-        out,
-    ))
+    exported(stored_calls::factorization_stored(store, group, builtin != 0, number, text, out))
 }
 
 // Its Lyndon suffix table, likewise.
@@ -308,7 +301,7 @@ pub extern "C" fn lyndon_store_suffix_table(
     ensures answer { λ r. ⌜ r ≡ recordOf (suffixTableStoredAnswer (lookup store group (isBuiltIn builtin) number) (now (text .entry)) (length (now (out .entry)))) ⌝ }
     ensures content { λ r. ⌜ now (out .exit) ≡ suffixTableStoredAfter (lookup store group (isBuiltIn builtin) number) (now (text .entry)) (now (out .entry)) ⌝ }
 {
-    exported(table_store::calls::suffix_table_stored(store, group, builtin != 0, number, text, out))
+    exported(stored_calls::suffix_table_stored(store, group, builtin != 0, number, text, out))
 }
 
 // Its left Lyndon forest, likewise.
@@ -326,7 +319,7 @@ pub extern "C" fn lyndon_store_left_forest(
     ensures starts { λ r. ⌜ now (first .exit) ≡ leftFirstStoredAfter (lookup store group (isBuiltIn builtin) number) (now (text .entry)) (now (first .entry)) (now (past .entry)) ⌝ }
     ensures ends { λ r. ⌜ now (past .exit) ≡ leftPastStoredAfter (lookup store group (isBuiltIn builtin) number) (now (text .entry)) (now (first .entry)) (now (past .entry)) ⌝ }
 {
-    exported(table_store::calls::left_forest_stored(
+    exported(stored_calls::left_forest_stored(
         store,
         group,
         builtin != 0,
@@ -352,5 +345,5 @@ pub extern "C" fn lyndon_store_runs(
     ensures entries { λ r. ⌜ now (list .exit) ≡ listStoredAfter (lookup store group (isBuiltIn builtin) number) (now (text .entry)) (now (work .entry)) (now (list .entry)) ⌝ }
     ensures arrays { λ r. ⌜ now (work .exit) ≡ workStoredAfter (lookup store group (isBuiltIn builtin) number) (now (text .entry)) (now (work .entry)) (now (list .entry)) ⌝ }
 {
-    exported(table_store::calls::runs_stored(store, group, builtin != 0, number, text, work, list))
+    exported(stored_calls::runs_stored(store, group, builtin != 0, number, text, work, list))
 }

@@ -1,2 +1,1 @@
 pub mod StoreTests
-pub mod Found

@@ -1,6 +1,6 @@
 -- `table_store::store::read_table` meets its contract: the lookup refuses, or its table is copied.
 -- Assumes nothing.
-use Rattle.table_store.proofs.Found.{refused-by, kept-by, answered-by, left-by, one-buffer}
+use Rattle.table_store.specs.Found.{refused-by, kept-by, answered-by, left-by, one-buffer}
 use borrow.Author.Needs.{needs}
 use Rattle.table_store.proofs.store.read_table.Statement.{statement}
 use Rattle.table_store.proofs.store.read_table.Tie as tie

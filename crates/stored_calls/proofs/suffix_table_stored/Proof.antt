@@ -1,10 +1,10 @@
--- `table_store::calls::suffix_table_stored` meets its contract: the lookup refuses, or its table is handed on.
+-- `stored_calls::suffix_table_stored` meets its contract: the lookup refuses, or its table is handed on.
 -- Assumes nothing.
 use Rattle.answer.specs.AfterLaws.{content-handed-on}
-use Rattle.table_store.proofs.Found.{refused-by, kept-by, answered-by, left-by, one-buffer}
+use Rattle.table_store.specs.Found.{refused-by, kept-by, answered-by, left-by, one-buffer}
 use borrow.Author.Needs.{needs}
-use Rattle.table_store.proofs.calls.suffix_table_stored.Statement.{statement}
-use Rattle.table_store.proofs.calls.suffix_table_stored.Tie as tie
+use Rattle.stored_calls.proofs.suffix_table_stored.Statement.{statement}
+use Rattle.stored_calls.proofs.suffix_table_stored.Tie as tie
 
 look-up-requires : tie.Need-look-up-requires
 look-up-requires c κs = search needs

@@ -1,23 +1,23 @@
 // The calls that use a table of a store, a group's own or a built-in one: each is the ranked call in order 2 by that table, with no order asked
 // for. Refused by document 02's checks 21 and 22, then by those of the ranked call, of which 3 and 16 never fail here.
 //
-// Contracts cite `specs/Store.antt` and `specs/Calls.antt`; the clause `step` says the same as a step of a series (`specs/Series.antt`). Nothing is
+// Contracts cite the files `Store` and `Calls` of `table_store`; the clause `step` says the same as a step of a series (`Series`). Nothing is
 // assumed.
-use crate::store;
-use crate::store::TableStore;
 use answer::Answer;
 use checks::Check;
 use checks::limits;
 use factors::factorization::factorization_ranked;
 use factors::suffix_table::suffix_table_ranked;
+use table_store::store;
+use table_store::store::TableStore;
 ghost use mathlib.Core.Path.{_≡_};
 ghost use mathlib.Core.List.{[], _∷_};
 ghost use lib.ListN.{length};
 ghost use Rattle.table_store.specs.Store.{lookup};
 ghost use Rattle.table_store.specs.Series.{resultWith, resultOf, use-table, array, factorization, suffix-table, left-forest, runs};
 ghost use Rattle.table_store.specs.Calls.{arrayStoredAnswer, arrayStoredAfter, factorizationStoredAnswer, factorsStoredAfter};
 ghost use Rattle.table_store.specs.Calls.{suffixTableStoredAnswer, suffixTableStoredAfter, leftForestStoredAnswer, leftFirstStoredAfter};
 ghost use Rattle.table_store.specs.Calls.{leftPastStoredAfter, runsStoredAnswer, listStoredAfter, workStoredAfter};
 
 // The Lyndon array of a text of bytes.
 pub fn lyndon_array_stored(

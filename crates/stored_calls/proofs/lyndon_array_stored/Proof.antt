@@ -1,10 +1,10 @@
--- `table_store::calls::factorization_stored` meets its contract: the lookup refuses, or its table is handed on.
+-- `stored_calls::lyndon_array_stored` meets its contract: the lookup refuses, or its table is handed on.
 -- Assumes nothing.
 use Rattle.answer.specs.AfterLaws.{content-handed-on}
-use Rattle.table_store.proofs.Found.{refused-by, kept-by, answered-by, left-by, one-buffer}
+use Rattle.table_store.specs.Found.{refused-by, kept-by, answered-by, left-by, one-buffer}
 use borrow.Author.Needs.{needs}
-use Rattle.table_store.proofs.calls.factorization_stored.Statement.{statement}
-use Rattle.table_store.proofs.calls.factorization_stored.Tie as tie
+use Rattle.stored_calls.proofs.lyndon_array_stored.Statement.{statement}
+use Rattle.stored_calls.proofs.lyndon_array_stored.Tie as tie
 
 look-up-requires : tie.Need-look-up-requires
 look-up-requires c κs = search needs
@@ -18,11 +18,11 @@ refused-requires c κs = search needs
 enum-told : tie.Need-enum-told
 enum-told c = search needs
 
-slice-aggregate-factorization-ranked : tie.Need-slice-aggregate-factorization-ranked
-slice-aggregate-factorization-ranked c = search needs
+slice-aggregate-lyndon-array-ranked : tie.Need-slice-aggregate-lyndon-array-ranked
+slice-aggregate-lyndon-array-ranked c = search needs
 
-factorization-ranked-requires : tie.Need-factorization-ranked-requires
-factorization-ranked-requires c κs = search needs
+lyndon-array-ranked-requires : tie.Need-lyndon-array-ranked-requires
+lyndon-array-ranked-requires c κs = search needs
 
 returns : tie.Need-returns
 returns c =
@@ -39,19 +39,19 @@ returns-2 c =
     let told = called .before .before .before in
     let passed = told .enum-told .given .1 in
     let looked = told .before .before .before .look-up .ensures in
-    let by = called .factorization-ranked .ensures in
+    let by = called .lyndon-array-ranked .ensures in
     one-buffer (answered-by looked passed _ _ (by .0)) (left-by looked passed _ _ _ (content-handed-on _ _ _ _ _ (by .0) (by .1)))
 
-pub factorization-stored-spec : {M : Type 1} → statement M
-factorization-stored-spec =
+pub lyndon-array-stored-spec : {M : Type 1} → statement M
+lyndon-array-stored-spec =
     tie.close
     (tie.spec
     look-up-requires
     enum-known-c
     refused-requires
     enum-told
-    slice-aggregate-factorization-ranked
-    factorization-ranked-requires
+    slice-aggregate-lyndon-array-ranked
+    lyndon-array-ranked-requires
     returns
     same-length
     returns-2)
