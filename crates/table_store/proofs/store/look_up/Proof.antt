@@ -24,22 +24,27 @@ enum-told-2 c = search needs
 table-at-requires : tie.Need-table-at-requires
 table-at-requires c κs =
     let asked = c .before .before in
-    sym (asked .before .before .table-exists .ensures) ∙ use-there (asked .before .before .table-exists .result) (asked .before .is-usable .result) (asked .table-use .ensures) (c .enum-told2 .given .1)
+    let there = asked .before .before .table-exists in
+    sym (there .ensures) ∙ use-there (there .result) (asked .before .is-usable .result) (asked .table-use .ensures) (c .enum-told2 .given .1)
 
 returns : tie.Need-returns
 returns c =
     let asked = c .before .before in
+    let there = asked .before .before .table-exists in
+    let usable = asked .before .is-usable in
     let start = asked .before .before .before in
-    use-failed (asked .before .before .table-exists .result) (asked .before .is-usable .result) (asked .table-use .ensures) (start .args .store) (start .args .group) (start .args .builtin) (start .args .number)
-    (asked .before .before .table-exists .ensures) (asked .before .is-usable .ensures) (c .enum-told .given .1) _
+    use-failed (there .result) (usable .result) (asked .table-use .ensures) (start .args .store) (start .args .group) (start .args .builtin)
+    (start .args .number) (there .ensures) (usable .ensures) (c .enum-told .given .1) _
 
 returns-2 : tie.Need-returns-2
 returns-2 c =
     let told = c .before in
     let asked = told .before .before in
+    let there = asked .before .before .table-exists in
+    let usable = asked .before .is-usable in
     let start = asked .before .before .before in
-    use-passed (asked .before .before .table-exists .result) (asked .before .is-usable .result) (asked .table-use .ensures) (start .args .store) (start .args .group) (start .args .builtin) (start .args .number)
-    (asked .before .before .table-exists .ensures) (asked .before .is-usable .ensures) (told .enum-told2 .given .1) _ (c .table-at .ensures)
+    use-passed (there .result) (usable .result) (asked .table-use .ensures) (start .args .store) (start .args .group) (start .args .builtin)
+    (start .args .number) (there .ensures) (usable .ensures) (told .enum-told2 .given .1) _ (c .table-at .ensures)
 
 pub look-up-spec : {M : Type 1} → statement M
 look-up-spec =
