@@ -1,4 +1,4 @@
-# lib: the static library, proved and ready to link, beside include/lyndon.h. example: two C programs that use it.
+# lib: the static library, proved and ready to link, beside include/lyndon.h. example: three C programs that use it.
 # agreement: the measure of how far two words agree, by itself, for the benchmark and the tests.
 # bench: the benchmark. beside: the library beside an older one, OLD=.../liblyndon.a, all calls or those whose names begin with a word of
 # CALLS. test: all tests.
@@ -25,6 +25,8 @@ example: lib
 	./target/examples/runs mississippi
 	$(CC) $(CFLAGS) -o target/examples/two_groups examples/two_groups.c target/lib/liblyndon.a
 	./target/examples/two_groups GATTaca
+	$(CC) $(CFLAGS) -o target/examples/default_order examples/default_order.c target/lib/liblyndon.a
+	./target/examples/default_order GATTaca
 
 bench: lib agreement
 	mkdir -p target/bench

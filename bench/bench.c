@@ -1,5 +1,5 @@
 /* Prints tables: nanoseconds a letter for each call and family at three sizes, this library beside the same algorithm in C, and at the
- * end the growth and the ratio of each call, and the ratio of each ranked call to the call without ranks. What the two write is compared in
+ * end the growth and the ratio of each call, and the ratio of each ranked call to rising order without ranks. What the two write is compared in
  * full. */
 #include "families.h"
 #include "lyndon.h"
@@ -16,7 +16,7 @@
 static uint8_t text[LARGEST];
 static uint32_t numbers[LARGEST]; /* a text of 32-bit letters, or an array */
 static uint32_t order;
-static uint8_t ranks[256];
+static uint8_t ranks[256], folded[256];
 
 /* What a call writes: two buffers, and its answer. */
 struct written {
@@ -59,18 +59,21 @@ static void their_array_u32(size_t n) { reference_array_u32(numbers, n, order, t
 static void our_runs(size_t n) { ours.answer = lyndon_runs(text, n, ours.first, 2 * n, ours.second, 3 * (n - 1)); }
 static void their_runs(size_t n) { theirs.answer = accepted(reference_runs(text, n, theirs.first, theirs.second)); }
 
+/* The default order, in the reference by the ranks of it. */
 static void our_factorization(size_t n) { ours.answer = lyndon_factorization(text, n, ours.first, n); }
 static void their_factorization(size_t n) {
     uint32_t comparisons;
-    theirs.answer = accepted(reference_factorization(text, n, theirs.first, &comparisons));
+    theirs.answer = accepted(reference_factorization_ranked(folded, text, n, theirs.first, &comparisons));
     theirs.answer.comparisons = comparisons;
 }
 
 static void our_suffix_table(size_t n) { ours.answer = lyndon_suffix_table(text, n, ours.first, n); }
-static void their_suffix_table(size_t n) { reference_suffix_table(text, n, theirs.first), theirs.answer = accepted(n); }
+static void their_suffix_table(size_t n) { reference_suffix_table_ranked(folded, text, n, theirs.first), theirs.answer = accepted(n); }
 
 static void our_left_forest(size_t n) { ours.answer = lyndon_left_forest(text, n, ours.first, n, ours.second, n); }
-static void their_left_forest(size_t n) { reference_left_forest(text, n, theirs.first, theirs.second), theirs.answer = accepted(n); }
+static void their_left_forest(size_t n) {
+    reference_left_forest_ranked(folded, text, n, theirs.first, theirs.second), theirs.answer = accepted(n);
+}
 
 static void our_right_forest(size_t n) { ours.answer = lyndon_right_forest(numbers, n, ours.first, n, ours.second, n); }
 static void their_right_forest(size_t n) {
@@ -110,6 +113,15 @@ static void their_left_forest_ranked(size_t n) {
     reference_left_forest_ranked(ranks, text, n, theirs.first, theirs.second), theirs.answer = accepted(n);
 }
 
+/* Rising order, in the library by order 0 of the ranked forms. */
+static void their_factorization_rising(size_t n) {
+    uint32_t comparisons;
+    theirs.answer = accepted(reference_factorization(text, n, theirs.first, &comparisons));
+    theirs.answer.comparisons = comparisons;
+}
+static void their_suffix_table_rising(size_t n) { reference_suffix_table(text, n, theirs.first), theirs.answer = accepted(n); }
+static void their_left_forest_rising(size_t n) { reference_left_forest(text, n, theirs.first, theirs.second), theirs.answer = accepted(n); }
+
 /* The reader's n is its input's length. */
 static void our_reader(size_t n) { ours.answer = lyndon_read_fasta(text, n, (uint8_t *)ours.first, READER_LETTERS); }
 static void their_reader(size_t n) { theirs.answer = accepted(reference_read_fasta(text, n, (uint8_t *)theirs.first)); }
@@ -124,11 +136,12 @@ static uint32_t random_number(void) {
 
 static void texts(int f, size_t n) { family_fill(f, text, n); }
 
-/* Letters c and c + 128 have one rank, and T < G < C < A. */
+/* Letters c and c + 128 have one rank, and T < G < C < A. In the default order a to z rank as A to Z. */
 static void fill_ranks(void) {
     static const uint8_t bases[] = "ACGT", complements[] = "TGCA";
     for (int c = 0; c < 128; c++) ranks[c] = ranks[c + 128] = (uint8_t)c;
     for (int i = 0; i < 4; i++) ranks[bases[i]] = ranks[bases[i] + 128] = complements[i];
+    for (int c = 0; c < 256; c++) folded[c] = (uint8_t)(c >= 'a' && c <= 'z' ? c - 'a' + 'A' : c);
 }
 
 static const char *number_names[] = {"random letters", "rising letters", "falling letters"};
@@ -220,19 +233,19 @@ static struct result table(const struct call *call) {
     return result;
 }
 
-/* By rank, and in order 0 through the same form where it has an order, over the call without ranks, on the first family. */
-static void (*ranked_form)(size_t), (*plain_form)(size_t);
-static void without_ranks(size_t n) { order = LYNDON_RISING, plain_form(n); }
+/* By rank, and by a further form where there is one, over rising order without ranks, on the first family. */
+static void (*ranked_form)(size_t), (*rising_form)(size_t), (*further_form)(size_t);
+static void without_ranks(size_t n) { order = LYNDON_RISING, rising_form(n); }
 static void by_rank(size_t n) { order = LYNDON_RANKED, ranked_form(n); }
-static void in_order_0(size_t n) { order = LYNDON_RISING, ranked_form(n); }
+static void further(size_t n) { order = LYNDON_RISING, further_form(n); }
 
-static void ranked_over_plain(const char *name, void (*ranked)(size_t), void (*plain)(size_t), int has_order) {
+static void ranked_over_rising(const char *name, void (*ranked)(size_t), void (*rising)(size_t), void (*form)(size_t), const char *form_name) {
     double least[3];
-    ranked_form = ranked, plain_form = plain;
+    ranked_form = ranked, rising_form = rising, further_form = form;
     family_fill(0, text, LARGEST);
-    best(has_order ? 3 : 2, (void (*const[])(size_t)){without_ranks, by_rank, in_order_0}, LARGEST, least);
+    best(form ? 3 : 2, (void (*const[])(size_t)){without_ranks, by_rank, further}, LARGEST, least);
     printf("  %-28s %6.2f by rank", name, least[1] / least[0]);
-    if (has_order) printf(", %.2f in order 0", least[2] / least[0]);
+    if (form) printf(", %.2f %s", least[2] / least[0], form_name);
     printf("; 1.6 asked for by rank: %s\n", least[1] / least[0] <= 1.6 ? "met" : "not met");
 }
 
@@ -248,6 +261,9 @@ int main(void) {
         {"factorization", 0, our_factorization, their_factorization, 0, texts, family_count(), family_name, TEXT_SIZES, 2.5},
         {"suffix table", 0, our_suffix_table, their_suffix_table, 0, texts, family_count(), family_name, TEXT_SIZES, 2.5},
         {"left forest", 0, our_left_forest, their_left_forest, 0, texts, family_count(), family_name, TEXT_SIZES, 2.5},
+        {"factorization, rising", 0, our_factorization_ranked, their_factorization_rising, 0, texts, family_count(), family_name, TEXT_SIZES, 2.5},
+        {"suffix table, rising", 0, our_suffix_table_ranked, their_suffix_table_rising, 0, texts, family_count(), family_name, TEXT_SIZES, 2.5},
+        {"left forest, rising", 0, our_left_forest_ranked, their_left_forest_rising, 0, texts, family_count(), family_name, TEXT_SIZES, 2.5},
         {"array of bytes, ranked", 2, our_array_ranked, their_array_ranked, 0, texts, family_count(), family_name, TEXT_SIZES, 0},
         {"runs, ranked", 2, our_runs_ranked, their_runs_ranked, 0, texts, family_count(), family_name, TEXT_SIZES, 0},
         {"factorization, ranked", 2, our_factorization_ranked, their_factorization_ranked, 0, texts, family_count(), family_name, TEXT_SIZES, 0},
@@ -273,11 +289,11 @@ int main(void) {
         if (calls[c].limit > 0) printf("; %.1f asked for: %s", calls[c].limit, results[c].ratio <= calls[c].limit ? "met" : "not met");
         printf("\n");
     }
-    printf("\nranked: over the call without ranks, on %s at the largest size\n", family_name(0));
-    ranked_over_plain("array of bytes", our_array_ranked, our_array, 1);
-    ranked_over_plain("runs", our_runs_ranked, our_runs, 0);
-    ranked_over_plain("factorization", our_factorization_ranked, our_factorization, 1);
-    ranked_over_plain("suffix table", our_suffix_table_ranked, our_suffix_table, 1);
-    ranked_over_plain("left forest", our_left_forest_ranked, our_left_forest, 1);
+    printf("\nranked: over rising order without ranks, for the last three order 0 of the same form; on %s at the largest size\n", family_name(0));
+    ranked_over_rising("array of bytes", our_array_ranked, our_array, our_array_ranked, "in order 0");
+    ranked_over_rising("runs", our_runs_ranked, our_runs, 0, 0);
+    ranked_over_rising("factorization", our_factorization_ranked, our_factorization_ranked, our_factorization, "in the default order");
+    ranked_over_rising("suffix table", our_suffix_table_ranked, our_suffix_table_ranked, our_suffix_table, "in the default order");
+    ranked_over_rising("left forest", our_left_forest_ranked, our_left_forest_ranked, our_left_forest, "in the default order");
     return 0;
 }

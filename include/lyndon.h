@@ -47,8 +47,17 @@ typedef struct {
     uint32_t comparisons;
 } lyndon_answer;
 
-/* Order 0, rising: letters are compared by number. Order 1, falling: the comparison of letters is turned round. Order 2, of the ranked
- * calls alone: letters are compared by rank, rising. In all, a proper prefix is smaller than the longer word. */
+/* Order 0, rising: letters are compared by number. Order 1, falling: the comparison of letters is turned round. Order 2, which the
+ * ranked calls alone take: letters are compared by rank, rising. In all, a proper prefix is smaller than the longer word.
+ *
+ * lyndon_factorization, lyndon_suffix_table and lyndon_left_forest take no order and use the default one: a to z rank as A to Z, so that 'a'
+ * and 'A' are one letter, and every other byte by its number. It is what the ranked calls do in order 2 with built-in table 1 of a store
+ * (below). On a text without a to z, or without the bytes 65 to 96, it gives what order 0 gives. For order 0, call the ranked form:
+ * lyndon_factorization_ranked(text, n, LYNDON_RISING, NULL, 0, out, out_len), for example.
+ *
+ * A factorization and an array go together only where both were made in one order. The array in the default order is
+ * lyndon_store_array(lyndon_store_new(), 1, 1, 1, text, n, out, out_len). Of "aB" it is 2 1, and in the default order "aB" is one factor; its
+ * rising array is 1 1, and in order 0 it has two factors. */
 #define LYNDON_RISING 0u
 #define LYNDON_FALLING 1u
 #define LYNDON_RANKED 2u
@@ -65,25 +74,26 @@ lyndon_answer lyndon_array_u32(const uint32_t *text, size_t n, uint32_t order, u
  * two letters. Refusals 1, 2, 4 (list), 5. */
 lyndon_answer lyndon_runs(const uint8_t *text, size_t n, uint32_t *work, size_t work_len, uint32_t *list, size_t list_len);
 
-/* The Lyndon factorization, rising: out holds the starts of the factors, the unique Lyndon words u0 >= u1 >= .. whose row is the text.
- * Needs n places; the count is the number of factors, and only so many places are written. The answer's comparisons is how many times
- * Duval's scan compares two letters of this text; a question for less, equal or greater counts once. A scan stops at a smaller letter or
- * at the end, where nothing is asked; the next begins at the first letter in no factor. In all at most 2 n - 2.
- * Refusals 1, 2, 4. */
+/* The Lyndon factorization, in the default order (a to z rank as A to Z, every other byte by its number): out holds the starts of the
+ * factors, the unique Lyndon words u0 >= u1 >= .. whose row is the text. Needs n places; the count is the number of factors, and only so many
+ * places are written. The answer's comparisons is how many times Duval's scan compares two letters of this text in that order; a question
+ * for less, equal or greater counts once. A scan stops at a smaller letter or at the end, where nothing is asked; the next begins at the
+ * first letter in no factor. In all at most 2 n - 2. Refusals 1, 2, 4. */
 lyndon_answer lyndon_factorization(const uint8_t *text, size_t n, uint32_t *out, size_t out_len);
 
-/* The Lyndon suffix table, rising: out[j] is the length of the longest Lyndon word that ends at j. Needs n places; the count is n.
- * Refusals 1, 2, 4. */
+/* The Lyndon suffix table, in the default order (a to z rank as A to Z, every other byte by its number): out[j] is the length of the longest
+ * Lyndon word that ends at j. Needs n places; the count is n. Refusals 1, 2, 4. */
 lyndon_answer lyndon_suffix_table(const uint8_t *text, size_t n, uint32_t *out, size_t out_len);
 
 /* A Lyndon forest cuts every factor of two letters or more as u v, and u and v likewise. For a position j that starts a factor both
  * buffers hold j. Before any other j falls exactly one cut: first[j] is the start of u, past[j] one past the last position of v.
  * Each buffer needs n places; the count is n. Refusals 1, 2, 4 (either buffer), and of the right forest 6, 7, 8. */
 
-/* The left forest, rising: u is the longest proper Lyndon prefix. */
+/* The left forest, in the default order (a to z rank as A to Z, every other byte by its number): u is the longest proper Lyndon prefix. */
 lyndon_answer lyndon_left_forest(const uint8_t *text, size_t n, uint32_t *first, size_t first_len, uint32_t *past, size_t past_len);
 
-/* The right forest, of an array alone: v is the longest proper Lyndon suffix. It is the forest of every text that has this Lyndon array. */
+/* The right forest, of an array alone: v is the longest proper Lyndon suffix. It is the forest of every text that has this Lyndon array, in
+ * the order of that array. */
 lyndon_answer lyndon_right_forest(const uint32_t *array, size_t n, uint32_t *first, size_t first_len, uint32_t *past, size_t past_len);
 
 /* A text of 32-bit letters, each of 0 to n - 1 once, whose rising Lyndon array is the given one: text[i] is the number of earlier entries
@@ -111,7 +121,7 @@ lyndon_answer lyndon_runs_ranked(const uint8_t *text, size_t n, const uint8_t *t
 
 /* A store of rank tables for two groups of users, 1 and 2. A group has three tables of its own, 0 to 2, which its calls alone replace; in a
  * new store none is written. Two built-in tables are for both groups, and nobody changes them: 0 ranks each byte by its number; 1 ranks
- * a to z as A to Z, and every other byte by its number.
+ * a to z as A to Z, and every other byte by its number: that of the default order.
  *
  * A store is plain data, handed on by value from call to call. Own table k of group g is the 256 bytes from tables[((g - 1) * 3 + k) * 256]
  * on, and is written where written[(g - 1) * 3 + k] is not 0. Any bytes are a store; all bytes 0 are a new one. Where a new store is handed

@@ -8,6 +8,11 @@
 //! The calls on texts of bytes have a further form, named `.._ranked`, that can compare letters by ranks of the caller's own: where an order
 //! is asked for, give an [`Order`] or `&`[`Ranks`].
 //!
+//! Where none is asked for, in [`factorization`], [`suffix_table`] and [`left_forest`], letters are compared in the default order, by rank:
+//! `a` to `z` as `A` to `Z`, every other letter by its number. Letters go by number where that is asked for:
+//! `factorization_ranked(text, Order::Rising)`. A factorization and a Lyndon array go together only where both are in one order; the ranks of the
+//! default order are [`Ranks::default`]. [`runs`] depend on no order, only on which bytes are equal: there `a` and `A` are two letters.
+//!
 //! Two groups of users can keep their ranks in one [`TableStore`], and call by the tables that stand there: each group by its own and by two
 //! built-in ones, never by the other group's.
 //!
@@ -59,11 +64,11 @@ pub const fn run_list_length(n: usize) -> usize {
     n.saturating_sub(1).saturating_mul(3)
 }
 
-/// How two letters compare. In both orders a proper prefix is smaller than the longer word.
-#[derive(Clone, Copy, Debug, Default, PartialEq, Eq, Hash)]
+/// How two letters compare. In both orders a proper prefix is smaller than the longer word. Neither is the default order of the calls that
+/// take none: that is by rank, [`Ranks::default`].
+#[derive(Clone, Copy, Debug, PartialEq, Eq, Hash)]
 pub enum Order {
     /// By number.
-    #[default]
     Rising,
     /// By number, turned round.
     Falling,
@@ -182,7 +187,8 @@ fn all_runs(n: usize, call: impl FnOnce(&mut [u32], &mut [u32]) -> Result<usize,
     Ok(listed(&list[..3 * count]).collect())
 }
 
-/// The Lyndon array of a text of bytes: entry `i` is the length of the longest Lyndon word that starts at `i`.
+/// The Lyndon array of a text of bytes: entry `i` is the length of the longest Lyndon word that starts at `i`. The array that goes with
+/// [`factorization`], which takes no order, is [`lyndon_array_ranked`] by [`Ranks::default`].
 ///
 /// # Errors
 ///
@@ -241,8 +247,11 @@ pub fn lyndon_array_u32_into(text: &[u32], order: Order, out: &mut [u32]) -> Res
     counted(ffi::array_u32(text, order.number(), out))
 }
 
-/// The starts of the factors of the Lyndon factorization: each factor is a Lyndon word and none is smaller than the next. Also how many
-/// letter comparisons Duval's scan makes to find them.
+/// The Lyndon factorization in the default order, by rank: `a` to `z` as `A` to `Z`, every other letter by its number. For another order call
+/// [`factorization_ranked`], for letters by number `factorization_ranked(text, Order::Rising)`.
+///
+/// These are the starts of the factors: each factor is a Lyndon word and none is smaller than the next. Also how many letter comparisons
+/// Duval's scan makes to find them. The array that goes with them is [`lyndon_array_ranked`] by [`Ranks::default`].
 ///
 /// # Errors
 ///
@@ -252,73 +261,120 @@ pub fn lyndon_array_u32_into(text: &[u32], order: Order, out: &mut [u32]) -> Res
 /// let factors = lyndon::factorization(b"abbababaababbaba")?;
 /// assert_eq!(factors.starts, [0, 3, 5, 7, 15]);
 /// assert_eq!(factors.comparisons, 18);
+///
+/// // As `AB`, one Lyndon word; by number `B` comes before `a`.
+/// use lyndon::{factorization, factorization_ranked, Order};
+/// assert_eq!(factorization(b"aB")?.starts, [0]);
+/// assert_eq!(factorization_ranked(b"aB", Order::Rising)?.starts, [0, 1]);
 /// # Ok::<(), lyndon::Error>(())
 /// ```
 pub fn factorization(text: &[u8]) -> Result<Factorization, Error> {
     all_factors(text.len(), |out| factorization_into(text, out))
 }
 
-/// [`factorization`] into a buffer of at least `n` places. The count is the number of factors.
+/// [`factorization`] into a buffer, in the default order, by rank: `a` to `z` as `A` to `Z`, every other letter by its number. For
+/// another order call [`factorization_ranked_into`], for letters by number with `Order::Rising`.
+///
+/// The buffer has at least `n` places. The count is the number of factors.
 ///
 /// # Errors
 ///
 /// Refuses an empty text (refusal 1) and one of more than [`MAX_LENGTH`] letters (2); also where `out` is too short (4).
 ///
 /// ```
+/// use lyndon::{factorization_into, factorization_ranked_into, FactorCount, Order};
 /// let mut out = [9; 4];
-/// assert_eq!(lyndon::factorization_into(b"abab", &mut out)?, lyndon::FactorCount { count: 2, comparisons: 3 });
+/// assert_eq!(factorization_into(b"aBAb", &mut out)?, FactorCount { count: 2, comparisons: 3 });
 /// assert_eq!(out, [0, 2, 9, 9]);
+/// assert_eq!(factorization_ranked_into(b"aBAb", Order::Rising, &mut out)?, FactorCount { count: 3, comparisons: 3 });
+/// assert_eq!(out, [0, 1, 2, 9]);
 /// # Ok::<(), lyndon::Error>(())
 /// ```
 pub fn factorization_into(text: &[u8], out: &mut [u32]) -> Result<FactorCount, Error> {
     factors_counted(ffi::factorization(text, out))
 }
 
-/// The Lyndon suffix table: entry `j` is the length of the longest Lyndon word that ends at `j`.
+/// The Lyndon suffix table in the default order, by rank: `a` to `z` as `A` to `Z`, every other letter by its number. For another order call
+/// [`suffix_table_ranked`], for letters by number `suffix_table_ranked(text, Order::Rising)`.
+///
+/// Entry `j` is the length of the longest Lyndon word that ends at `j`.
 ///
 /// # Errors
 ///
 /// Refuses an empty text (refusal 1) and one of more than [`MAX_LENGTH`] letters (2).
 ///
 /// ```
-/// assert_eq!(lyndon::suffix_table(b"babbababbaabb")?, [1, 1, 2, 3, 1, 2, 1, 2, 5, 1, 1, 3, 4]);
+/// use lyndon::{suffix_table, suffix_table_ranked, Order};
+/// assert_eq!(suffix_table(b"babbababbaabb")?, [1, 1, 2, 3, 1, 2, 1, 2, 5, 1, 1, 3, 4]);
+/// assert_eq!(suffix_table(b"aBAb")?, [1, 2, 1, 2]);
+/// assert_eq!(suffix_table_ranked(b"aBAb", Order::Rising)?, [1, 1, 1, 2]);
 /// # Ok::<(), lyndon::Error>(())
 /// ```
 pub fn suffix_table(text: &[u8]) -> Result<Vec<u32>, Error> {
     filled(text.len(), |out| suffix_table_into(text, out))
 }
 
-/// [`suffix_table`] into a buffer of at least `n` places. The count is `n`.
+/// [`suffix_table`] into a buffer, in the default order, by rank: `a` to `z` as `A` to `Z`, every other letter by its number. For
+/// another order call [`suffix_table_ranked_into`], for letters by number with `Order::Rising`.
+///
+/// The buffer has at least `n` places. The count is `n`.
 ///
 /// # Errors
 ///
 /// Refuses an empty text (refusal 1) and one of more than [`MAX_LENGTH`] letters (2); also where `out` is too short (4).
+///
+/// ```
+/// use lyndon::{suffix_table_into, suffix_table_ranked_into, Order};
+/// let mut out = [9; 3];
+/// assert_eq!((suffix_table_into(b"aB", &mut out)?, out), (2, [1, 2, 9]));
+/// assert_eq!((suffix_table_ranked_into(b"aB", Order::Rising, &mut out)?, out), (2, [1, 1, 9]));
+/// # Ok::<(), lyndon::Error>(())
+/// ```
 pub fn suffix_table_into(text: &[u8], out: &mut [u32]) -> Result<usize, Error> {
     counted(ffi::suffix_table(text, out))
 }
 
-/// The left Lyndon forest: each factor of two letters or more is cut as `u·v`, `u` its longest proper Lyndon prefix, and `u` and `v`
-/// likewise.
+/// The left Lyndon forest in the default order, by rank: `a` to `z` as `A` to `Z`, every other letter by its number. For another order call
+/// [`left_forest_ranked`], for letters by number `left_forest_ranked(text, Order::Rising)`.
+///
+/// Each factor of two letters or more is cut as `u·v`, `u` its longest proper Lyndon prefix, and `u` and `v` likewise.
 ///
 /// # Errors
 ///
 /// Refuses an empty text (refusal 1) and one of more than [`MAX_LENGTH`] letters (2).
 ///
 /// ```
-/// let forest = lyndon::left_forest(b"aabb")?;
+/// use lyndon::{left_forest, left_forest_ranked, Order};
+/// let forest = left_forest(b"aabb")?;
 /// assert_eq!(forest.first, [0, 0, 1, 0]);
 /// assert_eq!(forest.past, [0, 3, 3, 4]);
+/// assert_eq!(left_forest(b"aABb")?, forest);
+/// // By number the two capitals come first: the factors are `a` and `ABb`.
+/// assert_eq!(left_forest_ranked(b"aABb", Order::Rising)?.first, [0, 1, 1, 1]);
 /// # Ok::<(), lyndon::Error>(())
 /// ```
 pub fn left_forest(text: &[u8]) -> Result<Forest, Error> {
     forest(text.len(), |first, past| left_forest_into(text, first, past))
 }
 
-/// [`left_forest`] into two buffers of at least `n` places each. The count is `n`.
+/// [`left_forest`] into two buffers, in the default order, by rank: `a` to `z` as `A` to `Z`, every other letter by its number. For
+/// another order call [`left_forest_ranked_into`], for letters by number with `Order::Rising`.
+///
+/// The buffers have at least `n` places each. The count is `n`.
 ///
 /// # Errors
 ///
 /// Refuses an empty text (refusal 1) and one of more than [`MAX_LENGTH`] letters (2); also where a buffer is too short (4).
+///
+/// ```
+/// use lyndon::{left_forest_into, left_forest_ranked_into, Order};
+/// let (mut first, mut past) = ([9; 3], [9; 3]);
+/// assert_eq!(left_forest_into(b"aB", &mut first, &mut past)?, 2);
+/// assert_eq!((first, past), ([0, 0, 9], [0, 2, 9]));
+/// assert_eq!(left_forest_ranked_into(b"aB", Order::Rising, &mut first, &mut past)?, 2);
+/// assert_eq!((first, past), ([0, 1, 9], [0, 1, 9]));
+/// # Ok::<(), lyndon::Error>(())
+/// ```
 pub fn left_forest_into(text: &[u8], first: &mut [u32], past: &mut [u32]) -> Result<usize, Error> {
     counted(ffi::left_forest(text, first, past))
 }
@@ -450,7 +506,7 @@ pub fn lyndon_array_ranked_into<'a>(text: &[u8], order: impl Into<LetterOrder<'a
     counted(ffi::array_ranked(text, order.number(), order.table(), out))
 }
 
-/// [`factorization`] with letters compared in an [`Order`] or by [`Ranks`]. By ranks it is the factorization of the row of ranks.
+/// [`factorization`] with letters compared in an [`Order`] or by [`Ranks`]. By ranks it is the rising factorization of the row of ranks.
 ///
 /// # Errors
 ///
@@ -478,7 +534,7 @@ pub fn factorization_ranked_into<'a>(text: &[u8], order: impl Into<LetterOrder<'
     factors_counted(ffi::factorization_ranked(text, order.number(), order.table(), out))
 }
 
-/// [`suffix_table`] with letters compared in an [`Order`] or by [`Ranks`]. By ranks it is the suffix table of the row of ranks.
+/// [`suffix_table`] with letters compared in an [`Order`] or by [`Ranks`]. By ranks it is the rising suffix table of the row of ranks.
 ///
 /// # Errors
 ///
@@ -504,7 +560,7 @@ pub fn suffix_table_ranked_into<'a>(text: &[u8], order: impl Into<LetterOrder<'a
     counted(ffi::suffix_table_ranked(text, order.number(), order.table(), out))
 }
 
-/// [`left_forest`] with letters compared in an [`Order`] or by [`Ranks`]. By ranks it is the left forest of the row of ranks.
+/// [`left_forest`] with letters compared in an [`Order`] or by [`Ranks`]. By ranks it is the rising left forest of the row of ranks.
 ///
 /// # Errors
 ///

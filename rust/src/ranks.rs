@@ -1,8 +1,9 @@
 //! Ranks of letters.
-use crate::Order;
+use crate::{Group1, Order, Table, TableStore};
 use std::fmt;
 
 /// A rank for each of the 256 letters of a text of bytes: letters are compared by rank, and letters of one rank count as the same letter.
+/// Those of the default order are [`Ranks::default`].
 #[derive(Clone, Debug, PartialEq, Eq, Hash)]
 pub struct Ranks([u8; 256]);
 
@@ -12,6 +13,7 @@ impl Ranks {
     /// ```
     /// let folded = lyndon::Ranks::new(std::array::from_fn(|letter| (letter as u8).to_ascii_uppercase()));
     /// assert_eq!(folded.rank(b'a'), folded.rank(b'A'));
+    /// assert_eq!(folded, lyndon::Ranks::default());
     /// ```
     pub const fn new(table: [u8; 256]) -> Ranks {
         Ranks(table)
@@ -65,6 +67,31 @@ impl Ranks {
     }
 }
 
+impl Default for Ranks {
+    /// The ranks of the default order, that of [`factorization`](crate::factorization), [`suffix_table`](crate::suffix_table) and
+    /// [`left_forest`](crate::left_forest): `a` to `z` rank as `A` to `Z`, every other letter by its number. They are the library's built-in
+    /// table 1.
+    ///
+    /// By them [`lyndon_array_ranked`](crate::lyndon_array_ranked) gives the array that goes with such a factorization: in one order, texts with
+    /// equal arrays have equal factors and right forests, and in two orders they need not.
+    ///
+    /// ```
+    /// use lyndon::{factorization, factorization_ranked, lyndon_array, lyndon_array_ranked, Order, Ranks};
+    ///
+    /// // One factor of two letters, in the default order.
+    /// assert_eq!(factorization(b"aB")?.starts, [0]);
+    /// assert_eq!(lyndon_array_ranked(b"aB", &Ranks::default())?, [2, 1]);
+    /// // Two factors of one letter, in rising order. This array does not go with the factorization above.
+    /// assert_eq!(factorization_ranked(b"aB", Order::Rising)?.starts, [0, 1]);
+    /// assert_eq!(lyndon_array(b"aB", Order::Rising)?, [1, 1]);
+    /// # Ok::<(), lyndon::Error>(())
+    /// ```
+    fn default() -> Ranks {
+        let table = TableStore::new().group::<Group1>().read(Table::built_in(1));
+        table.expect("every store has built-in table 1")
+    }
+}
+
 impl From<[u8; 256]> for Ranks {
     fn from(table: [u8; 256]) -> Ranks {
         Ranks::new(table)
@@ -94,10 +121,9 @@ impl std::error::Error for GroupError {}
 
 /// How two letters compare in a ranked call: by number, as in an [`Order`], or by rank. In all of them a proper prefix is smaller than the
 /// longer word.
-#[derive(Clone, Copy, Debug, Default, PartialEq, Eq, Hash)]
+#[derive(Clone, Copy, Debug, PartialEq, Eq, Hash)]
 pub enum LetterOrder<'a> {
     /// By number.
-    #[default]
     Rising,
     /// By number, turned round.
     Falling,

@@ -49,7 +49,8 @@ impl<G: Group> Table<G> {
         Table { built_in: false, number, group: PhantomData }
     }
 
-    /// A built-in table: 0 ranks each letter by its number; 1 ranks `a` to `z` as `A` to `Z`, and every other letter by its number.
+    /// A built-in table: 0 ranks each letter by its number; 1 ranks `a` to `z` as `A` to `Z`, and every other letter by its number, as
+    /// the default order does ([`Ranks::default`]).
     pub const fn built_in(number: u32) -> Table<G> {
         Table { built_in: true, number, group: PhantomData }
     }

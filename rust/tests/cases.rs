@@ -4,6 +4,7 @@ mod common;
 mod definitions;
 
 use common::json::Json;
+use common::Numbers;
 use lyndon::Error;
 use std::collections::HashMap;
 
@@ -49,9 +50,19 @@ fn places(case: &Json, name: &str, ample: usize) -> Vec<u32> {
     vec![0; lent(case, name).unwrap_or(ample)]
 }
 
+/// Factors, suffix table and left forest are in rising order in the cases, and are run in order 0 of the ranked forms. The calls without an order
+/// (document 02, E12) are held to order 2 by built-in table 1, on the text and with each letter in either case. Returns 1 for each of the
+/// three that the default order moves.
+fn moved(text: &[u8], places: [usize; 2]) -> [usize; 3] {
+    common::check_default_by_table(text, places);
+    common::check_default_by_table(&common::in_either_case(&mut Numbers::for_text(text), text), places);
+    common::moved_by_default(text, places).map(usize::from)
+}
+
 #[test]
 fn calls_with_one_buffer() {
     let calls = ["array8", "array32", "factors", "prefix", "judge"];
+    let mut moves = [0; 2];
     let count = run_cases(&calls, |line, call, case, want| {
         let text = case.get("text").map(Json::bytes).unwrap_or_default();
         let entries = numbers(case, "array").or(numbers(case, "letters")).unwrap_or_default();
@@ -60,18 +71,23 @@ fn calls_with_one_buffer() {
         let got = match call {
             "array8" => common::array8(&text, order, &mut out),
             "array32" => common::array32(&entries, order, &mut out),
-            "factors" => common::factors(&text, &mut out).map(|(count, _)| count),
-            "prefix" => common::suffix_table(&text, &mut out),
+            "factors" => common::factors_ranked(&text, 0, &[], &mut out).map(|(count, _)| count),
+            "prefix" => common::suffix_table_ranked(&text, 0, &[], &mut out),
             _ => common::reconstruct(&entries, &mut out),
         };
         let written = numbers(want, "out");
         common::compare(line, got, &[&out], wanted(want), &[written.as_deref()]);
+        if let Some(which) = ["factors", "prefix"].iter().position(|name| *name == call) {
+            moves[which] += moved(&text, [out.len(); 2])[which];
+        }
     });
     assert_eq!(count, 234 + 24 + 115 + 113 + 403);
+    assert_eq!(moves, [1, 1]);
 }
 
 #[test]
 fn forests() {
+    let mut moves = 0;
     let count = run_cases(&["left", "right"], |line, call, case, want| {
         let text = case.get("text").map(Json::bytes).unwrap_or_default();
         let entries = numbers(case, "array").unwrap_or_default();
@@ -79,13 +95,16 @@ fn forests() {
         let mut past = places(case, "places", ample);
         let mut first = places(case, "first_places", ample);
         let got = match call {
-            "left" => common::left_forest(&text, &mut first, &mut past),
+            "left" => common::left_forest_ranked(&text, 0, &[], &mut first, &mut past),
             _ => common::right_forest(&entries, &mut first, &mut past),
         };
         let (w_first, w_past) = (numbers(want, "first"), numbers(want, "past"));
         common::compare(line, got, &[&first, &past], wanted(want), &[w_first.as_deref(), w_past.as_deref()]);
+        if call == "left" {
+            moves += moved(&text, [first.len(), past.len()])[2];
+        }
     });
-    assert_eq!(count, 116 + 515);
+    assert_eq!((count, moves), (116 + 515, 1));
 }
 
 /// A run list needs 3 × (n − 1) numbers (document 02, E4): so many are lent where a case gives no length. Cases that lend 6 × n numbers, or one
@@ -170,23 +189,21 @@ fn ranked() {
     assert_eq!(count, 27);
 }
 
-/// How many letters were compared (document 02, E7), without ranks and in order 0 of the ranked form.
+/// How many letters were compared (document 02, E7).
 #[test]
 fn letters_compared() {
-    let mut count = 0;
+    let (mut count, mut moves) = (0, 0);
     for case in later("e7_factors") {
         let (text, want) = (case.get("text").unwrap().bytes(), case.get("want").unwrap());
         let factors = wanted(want).map(|count| (count, comparisons(want)));
         let mut out = vec![0; text.len()];
         let what = format!("case {count} of e7_factors");
-        let got = common::factors(&text, &mut out);
-        let starts = definitions::duval(0, &text).0;
-        common::compare(&what, got, &[&out], factors, &[Some(&starts)]);
         let got = common::factors_ranked(&text, 0, &[], &mut out);
-        common::compare(&format!("ranked, {what}"), got, &[&out], factors, &[Some(&starts)]);
+        common::compare(&what, got, &[&out], factors, &[Some(&definitions::duval(0, &text).0)]);
+        moves += moved(&text, [text.len(); 2])[0];
         count += 1;
     }
-    assert_eq!(count, 110);
+    assert_eq!((count, moves), (110, 1));
 }
 
 /// The reader's cases of document 02, with E4's limits: capitals (E2), 4,096 letters and 16,384 bytes.

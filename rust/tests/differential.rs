@@ -3,8 +3,8 @@ mod common;
 mod definitions;
 mod faster;
 
-use common::{all_texts, Numbers};
-use definitions::{list_length, rising_answer as rising, Expected, MAX_INPUT, MAX_LETTERS};
+use common::{all_texts, outcome, shown, Numbers};
+use definitions::{list_length, Expected, MAX_INPUT, MAX_LETTERS};
 use faster::Lists;
 use lyndon::Error;
 
@@ -29,27 +29,6 @@ fn check_array32(x: &[u32], order: u32, places: usize) {
     let got = common::array32(x, order, &mut out);
     let what = format!("array of {x:?}, order {order}, {places} places");
     common::compare_all(&what, got, &[&out], &definitions::array_answer(x, order, places));
-}
-
-fn check_factors(x: &[u8], places: usize) {
-    let mut out = room(places);
-    let got = common::factors(x, &mut out);
-    common::compare_all(&format!("factors of {x:?}, {places} places"), got, &[&out], &rising(x, &[places], definitions::factors_accepted));
-}
-
-fn check_suffix_table(x: &[u8], places: usize) {
-    let mut out = room(places);
-    let got = common::suffix_table(x, &mut out);
-    let want = rising(x, &[places], definitions::suffix_table_accepted);
-    common::compare_all(&format!("suffix table of {x:?}, {places} places"), got, &[&out], &want);
-}
-
-fn check_left_forest(x: &[u8], first_places: usize, past_places: usize) {
-    let (mut first, mut past) = (room(first_places), room(past_places));
-    let got = common::left_forest(x, &mut first, &mut past);
-    let what = format!("left forest of {x:?}, {first_places} and {past_places} places");
-    let want = rising(x, &[first_places, past_places], definitions::left_forest_accepted);
-    common::compare_all(&what, got, &[&first, &past], &want);
 }
 
 fn check_runs(x: &[u8], work_places: usize, list_places: usize) {
@@ -77,11 +56,6 @@ fn check_reader(input: &[u8], places: usize) {
     let got = common::read_fasta(input, &mut letters);
     let what = format!("reading {:?}, {places} places", String::from_utf8_lossy(input));
     common::compare_all(&what, got, &[&letters], &definitions::read_fasta(input, places));
-}
-
-/// A text as a failure shows it.
-fn shown(x: &[u8]) -> String {
-    format!("{} letters {:?}..", x.len(), &x[..x.len().min(60)])
 }
 
 /// The ranked calls that take an order; `past_places` is the length of the left forest's second buffer.
@@ -115,7 +89,7 @@ fn check_by_table(x: &[u8], table: &[u8]) {
     check_runs_ranked(x, table, 2 * x.len() + SPARE, list_length(x.len()) + SPARE);
 }
 
-/// Every call that takes a text of bytes, and those that take its array.
+/// Every call that takes a text of bytes, those without an order also in order 0 of the ranked form, and those that take its array.
 fn check_text(x: &[u8]) {
     let n = x.len() + SPARE;
     for order in [0, 1] {
@@ -123,9 +97,8 @@ fn check_text(x: &[u8]) {
         let letters: Vec<u32> = x.iter().map(|&l| u32::from(l) * 0x0101_0101).collect();
         check_array32(&letters, order, n);
     }
-    check_factors(x, n);
-    check_suffix_table(x, n);
-    check_left_forest(x, n, n + 1);
+    common::check_default(x, [n, n + 1]);
+    check_ranked(x, 0, &[], n, n + 1);
     check_runs(x, 2 * x.len() + SPARE, list_length(x.len()) + SPARE);
     if !x.is_empty() {
         for order in [0, 1] {
@@ -176,7 +149,7 @@ fn most_comparisons() {
     let three = [0, 1, 2, 4, 5, 7, 9, 11, 12, 14];
     for (alphabet, wanted) in [(&b"ab"[..], &two[..]), (b"abc", &three)] {
         for (n, &most) in (1..).zip(wanted) {
-            let counts = all_texts(alphabet, n).map(|x| lyndon::factorization(&x).unwrap().comparisons);
+            let counts = all_texts(alphabet, n).map(|x| lyndon::factorization_ranked(&x, lyndon::Order::Rising).unwrap().comparisons);
             assert_eq!(counts.max(), Some(most), "{n} letters, {} different", alphabet.len());
         }
     }
@@ -317,9 +290,7 @@ fn two_faults_at_once() {
         check_array8(&x, order, p);
         let letters: Vec<u32> = x.iter().map(|&l| u32::from(l)).collect();
         check_array32(&letters, order, p);
-        check_factors(&x, p);
-        check_suffix_table(&x, p);
-        check_left_forest(&x, p, q);
+        common::check_default(&x, [p, q]);
         check_runs(&x, work, list);
         let a = if n == 0 { vec![] } else { damaged(&mut numbers, n, 2) };
         check_reconstruct(&a, p);
@@ -608,13 +579,12 @@ fn check_long(name: &str, x: &[u8], runs: fn(&[u8]) -> Vec<u32>) {
         let got = common::array32(&letters, order, &mut out);
         common::compare(&format!("array of numbers, {name}"), got, &[&out], Ok(n), &[Some(want)]);
     }
-    let got = common::factors(x, &mut out);
-    common::compare(&format!("factors, {name}"), got, &[&out], Ok(lists.factor_count()), &[Some(&lists.factors)]);
-    let got = common::suffix_table(x, &mut out);
-    common::compare(&format!("suffix table, {name}"), got, &[&out], Ok(n), &[Some(&lists.suffix_table)]);
+    // In the default order the case of a letter does not count.
+    let by_default = lists.in_default_order(x);
+    check_long_default(name, x, &by_default);
+    let either_case = common::in_either_case(&mut Numbers::for_text(x), x);
+    check_long_default(&format!("{name}, either case"), &either_case, &by_default);
     let (mut first, mut past) = (room(n + SPARE), room(n));
-    let got = common::left_forest(x, &mut first, &mut past);
-    common::compare(&format!("left forest, {name}"), got, &[&first, &past], Ok(n), &[Some(&lists.first), Some(&lists.past)]);
     for a in &lists.arrays {
         check_long_array(name, a);
     }
@@ -638,6 +608,18 @@ fn check_long(name: &str, x: &[u8], runs: fn(&[u8]) -> Vec<u32>) {
             common::compare(&format!("ranked runs, {name}"), got, &[&work, &list], Ok(count), &[Some(&arrays), Some(&lists.runs)]);
         }
     }
+}
+
+/// The calls without an order on one long text, held to the lists of its row of ranks.
+fn check_long_default(name: &str, x: &[u8], lists: &Lists) {
+    let n = x.len();
+    let (mut first, mut past) = (room(n + SPARE), room(n));
+    let got = common::factors(x, &mut first);
+    common::compare(&format!("factors, {name}"), got, &[&first], Ok(lists.factor_count()), &[Some(&lists.factors)]);
+    let got = common::suffix_table(x, &mut first);
+    common::compare(&format!("suffix table, {name}"), got, &[&first], Ok(n), &[Some(&lists.suffix_table)]);
+    let got = common::left_forest(x, &mut first, &mut past);
+    common::compare(&format!("left forest, {name}"), got, &[&first, &past], Ok(n), &[Some(&lists.first), Some(&lists.past)]);
 }
 
 /// The calls that take an array, held to other methods.
@@ -787,7 +769,7 @@ fn forms_that_allocate() {
     let mut numbers = Numbers::new(13);
     for _ in 0..300 {
         let n = numbers.below(30);
-        let x = numbers.text(b"abc", n);
+        let x = numbers.text(b"abAB[", n);
         let (mut out, mut other, mut work, mut list) = (room(n), room(n), room(2 * n), room(list_length(n)));
         for order in [Order::Rising, Order::Falling] {
             let written = lyndon::lyndon_array_into(&x, order, &mut out).map(|count| out[..count].to_vec());
@@ -813,13 +795,6 @@ fn forms_that_allocate() {
     }
 }
 
-/// What a call on buffers of these lengths answers, and all of their content afterwards.
-fn outcome<const N: usize, A>(places: [usize; N], call: impl FnOnce(&mut [Vec<u32>; N]) -> A) -> (A, [Vec<u32>; N]) {
-    let mut buffers = places.map(room);
-    buffers.iter_mut().for_each(|buffer| common::fill(buffer));
-    (call(&mut buffers), buffers)
-}
-
 /// The forms with buffers give what the C interface gives, in buffers that are long enough, longer, and one place short.
 #[test]
 fn forms_with_buffers() {
@@ -827,7 +802,7 @@ fn forms_with_buffers() {
     let mut numbers = Numbers::new(26);
     for _ in 0..600 {
         let n = numbers.below(30);
-        let x = numbers.text(b"abc", n);
+        let x = numbers.text(b"abAB[", n);
         let letters: Vec<u32> = x.iter().map(|&l| u32::from(l)).collect();
         let a = if n == 0 { vec![] } else { damaged(&mut numbers, n, 1) };
         let mut near = |full: usize| numbers.pick(&[full, full, full + SPARE, full.saturating_sub(1)]);

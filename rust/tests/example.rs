@@ -41,16 +41,32 @@ fn runs_of_a_text() {
     assert_eq!(run(&program, ""), ("refused 1 at 0\n".to_string(), Some(1)));
 }
 
-/// It prints what examples/README.md shows.
+/// What examples/README.md shows that an example prints for a text: so many lines.
+fn shown(name: &str, text: &str, lines: usize) -> String {
+    let readme = std::fs::read_to_string(root().join("examples/README.md")).unwrap();
+    let (_, shown) = readme.split_once(&format!("    $ ./target/examples/{name} {text}\n")).unwrap();
+    let shown: Vec<&str> = shown.lines().map_while(|line| line.strip_prefix("    ")).collect();
+    assert_eq!(shown.len(), lines);
+    shown.join("\n") + "\n"
+}
+
 #[test]
 fn arrays_of_two_groups() {
-    let readme = std::fs::read_to_string(root().join("examples/README.md")).unwrap();
-    let (_, shown) = readme.split_once("    $ ./target/examples/two_groups GATTaca\n").unwrap();
-    let shown: Vec<&str> = shown.lines().map_while(|line| line.strip_prefix("    ")).collect();
-    assert_eq!(shown.len(), 10);
     let program = built("two_groups");
-    assert_eq!(run(&program, "GATTaca"), (shown.join("\n") + "\n", Some(0)));
+    assert_eq!(run(&program, "GATTaca"), (shown("two_groups", "GATTaca", 10), Some(0)));
     // A table that is not written is told before a text that is empty.
     let (out, code) = run(&program, "");
     assert_eq!((out.matches("refused 22\n").count(), out.matches("refused 1\n").count(), code), (2, 5, Some(0)));
+}
+
+#[test]
+fn factors_in_the_default_order() {
+    let program = built("default_order");
+    assert_eq!(run(&program, "GATTaca"), (shown("default_order", "GATTaca", 4), Some(0)));
+    let want = "factors, default order      |aB|\n\
+        by the array, default order |aB|\n\
+        by the array, rising order  |a|B|\n\
+        factors, rising order       |a|B|\n";
+    assert_eq!(run(&program, "aB"), (want.to_string(), Some(0)));
+    assert_eq!(run(&program, ""), ("refused 1\n".to_string(), Some(1)));
 }

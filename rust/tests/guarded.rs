@@ -94,14 +94,15 @@ fn check_text(x: &[u8], side: Side) {
         common::compare(&what, got, &[out.slice()], full(n), &[Some(&lists.arrays[order as usize])]);
     }
     let mut out = room(n, side);
+    let by_default = lists.in_default_order(x);
     let got = common::factors(text.slice(), out.slice());
-    let factors = full(n).map(|_| lists.factor_count());
-    common::compare(&what, got, &[out.slice()], factors, &[Some(&lists.factors)]);
+    let factors = full(n).map(|_| by_default.factor_count());
+    common::compare(&what, got, &[out.slice()], factors, &[Some(&by_default.factors)]);
     let got = common::suffix_table(text.slice(), out.slice());
-    common::compare(&what, got, &[out.slice()], full(n), &[Some(&lists.suffix_table)]);
+    common::compare(&what, got, &[out.slice()], full(n), &[Some(&by_default.suffix_table)]);
     let mut second = room(n, side);
     let got = common::left_forest(text.slice(), out.slice(), second.slice());
-    common::compare(&what, got, &[out.slice(), second.slice()], full(n), &[Some(&lists.first), Some(&lists.past)]);
+    common::compare(&what, got, &[out.slice(), second.slice()], full(n), &[Some(&by_default.first), Some(&by_default.past)]);
     let (mut work, mut list) = (room(2 * n, side), room(list_length(n), side));
     let got = common::runs(text.slice(), work.slice(), list.slice());
     let (count, arrays) = (lists.runs.len() / 3, lists.arrays.concat());
@@ -315,9 +316,9 @@ fn the_guard_is_real() {
 #[test]
 fn short_texts() {
     let mut numbers = Numbers::new(21);
-    for round in 0..300 {
+    for round in 0..600 {
         let n = numbers.below(20);
-        let x = numbers.text(if round % 2 == 0 { b"ab" } else { b"abcd" }, n);
+        let x = numbers.text([b"ab".as_slice(), b"abcd", b"aAbB", b"@AZ[`az{"][round % 4], n);
         check_text(&x, Side::End);
         check_text(&x, Side::Start);
     }

@@ -30,7 +30,7 @@ fn calls(compiler: &str, variable: &str, words: &[&str]) {
     assert!(status.success());
     let output = Command::new(&program).output().unwrap();
     assert_eq!(String::from_utf8_lossy(&output.stderr), "");
-    assert_eq!((output.status.code(), String::from_utf8_lossy(&output.stdout).as_ref()), (Some(0), "266 calls\n"));
+    assert_eq!((output.status.code(), String::from_utf8_lossy(&output.stdout).as_ref()), (Some(0), "282 calls\n"));
 }
 
 #[test]

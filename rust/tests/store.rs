@@ -5,7 +5,7 @@ mod definitions;
 
 use common::ffi::{self, Answer, Store, TableName};
 use common::{kept, Numbers, TableUse, TABLE_USES};
-use definitions::MAX_LENGTH;
+use definitions::{built_in, MAX_LENGTH};
 use lyndon::{Error, FactorCount, Factorization, Forest, Group, Group1, Group2, GroupTables, Order, Ranks, Table, TableStore};
 use std::borrow::BorrowMut;
 use std::collections::BTreeMap;
@@ -163,20 +163,6 @@ impl Tables for Model {
     fn use_table(&self, by: &TableUse, name: TableName, text: &[u8], first: &mut [u32], second: &mut [u32]) -> Answer {
         self.table(name).map_or_else(refused, |table| (by.by_table)(text, &table, first, second))
     }
-}
-
-/// Built-in 0 ranks each byte by its number; 1 ranks a to z as A to Z, and every other byte by its number.
-const fn built_in(number: usize) -> [u8; 256] {
-    let mut table = [0; 256];
-    let mut letter = 0;
-    while letter < 256 {
-        table[letter] = match letter as u8 {
-            small @ b'a'..=b'z' if number == 1 => small - b'a' + b'A',
-            other => other,
-        };
-        letter += 1;
-    }
-    table
 }
 
 fn check_outcome(call: &Call, got: &Outcome, wanted: &Outcome) {

@@ -2,7 +2,7 @@
 mod common;
 mod definitions;
 
-use lyndon::{Error, FactorCount, Factorization, GroupError, LetterOrder, Order, Ranks, Run};
+use lyndon::{Error, FactorCount, Factorization, Forest, GroupError, LetterOrder, Order, Ranks, Run};
 
 fn refusal<T>(result: Result<T, Error>) -> (u32, u32) {
     result.map(|_| ()).map_err(|e| (e.number, e.position)).expect_err("a refusal")
@@ -21,16 +21,20 @@ fn k1_to_k5_arrays() {
 #[test]
 fn k6_array_and_factors() {
     let text = b"abbababaababbaba";
-    assert_eq!(lyndon::lyndon_array(text, Order::Rising).unwrap(), [3, 1, 1, 2, 1, 2, 1, 8, 5, 1, 3, 1, 1, 2, 1, 1]);
-    assert_eq!(lyndon::factorization(text).unwrap(), Factorization { starts: vec![0, 3, 5, 7, 15], comparisons: 18 });
+    let array = [3, 1, 1, 2, 1, 2, 1, 8, 5, 1, 3, 1, 1, 2, 1, 1];
+    assert_eq!(lyndon::lyndon_array(text, Order::Rising).unwrap(), array);
+    assert_eq!(lyndon::lyndon_array_ranked(text, &Ranks::default()).unwrap(), array);
+    let factors = Factorization { starts: vec![0, 3, 5, 7, 15], comparisons: 18 };
+    assert_eq!(lyndon::factorization_ranked(text, Order::Rising).unwrap(), factors);
+    assert_eq!(lyndon::factorization(text).unwrap(), factors);
 }
 
-/// Document 02, E7, counted by hand, in the plain form and in order 0 of the ranked one.
+/// Document 02, E7, counted by hand, in order 0 and in the default order: the texts have no capitals, so the two are one.
 #[test]
 fn letters_compared() {
     let compared = |text: &[u8]| {
-        let factors = lyndon::factorization(text).unwrap();
-        assert_eq!(lyndon::factorization_ranked(text, Order::Rising).unwrap(), factors);
+        let factors = lyndon::factorization_ranked(text, Order::Rising).unwrap();
+        assert_eq!(lyndon::factorization(text).unwrap(), factors);
         factors.comparisons as usize
     };
     // One letter is compared with nothing. A scan that reaches the end has asked once for each letter behind its first.
@@ -62,7 +66,10 @@ fn letters_compared() {
 
 #[test]
 fn k7_suffix_table() {
-    assert_eq!(lyndon::suffix_table(b"babbababbaabb").unwrap(), [1, 1, 2, 3, 1, 2, 1, 2, 5, 1, 1, 3, 4]);
+    let text = b"babbababbaabb";
+    for table in [lyndon::suffix_table_ranked(text, Order::Rising), lyndon::suffix_table(text)] {
+        assert_eq!(table.unwrap(), [1, 1, 2, 3, 1, 2, 1, 2, 5, 1, 1, 3, 4]);
+    }
 }
 
 #[test]
@@ -74,8 +81,42 @@ fn k8_right_forest() {
 
 #[test]
 fn k9_left_forest() {
-    let forest = lyndon::left_forest(b"aabb").unwrap();
-    assert_eq!((&forest.first[..], &forest.past[..]), (&[0, 0, 1, 0][..], &[0, 3, 3, 4][..]));
+    for forest in [lyndon::left_forest_ranked(b"aabb", Order::Rising), lyndon::left_forest(b"aabb")] {
+        assert_eq!(forest.unwrap(), Forest { first: vec![0, 0, 1, 0], past: vec![0, 3, 3, 4] });
+    }
+}
+
+/// Document 02, E12: an array that goes with the factors of the default order, and the rising one, which does not. `aB` and `ba` have one rising
+/// array and other factors.
+#[test]
+fn factors_and_array_in_one_order() {
+    let starts = |text: &[u8]| lyndon::factorization(text).unwrap().starts;
+    let array = |text: &[u8]| lyndon::lyndon_array_ranked(text, &Ranks::default()).unwrap();
+    let rising = |text: &[u8]| lyndon::lyndon_array(text, Order::Rising).unwrap();
+    assert_eq!((&starts(b"aB")[..], &array(b"aB")[..], &rising(b"aB")[..]), (&[0][..], &[2, 1][..], &[1, 1][..]));
+    assert_eq!((&starts(b"ba")[..], &array(b"ba")[..], &rising(b"ba")[..]), (&[0, 1][..], &[1, 1][..], &[1, 1][..]));
+    assert_eq!(lyndon::factorization_ranked(b"aB", Order::Rising).unwrap(), Factorization { starts: vec![0, 1], comparisons: 1 });
+    assert_eq!(lyndon::factorization(b"aB").unwrap(), Factorization { starts: vec![0], comparisons: 1 });
+}
+
+/// Document 02, E12, by hand. `abAa` is `ABAA` in the default order: the first scan stops inside a copy of the period, after 3 questions. By
+/// number it is cut as `ab` and `Aa`, and the first scan stops at the `A`, after 2. `[` comes behind `Z` in the default order, and so behind `z`.
+#[test]
+fn the_default_order() {
+    let forest = |first: [u32; 4], past: [u32; 4]| Forest { first: first.to_vec(), past: past.to_vec() };
+    assert_eq!(lyndon::factorization(b"abAa").unwrap(), Factorization { starts: vec![0, 2, 3], comparisons: 4 });
+    assert_eq!(lyndon::suffix_table(b"abAa").unwrap(), [1, 2, 1, 1]);
+    assert_eq!(lyndon::left_forest(b"abAa").unwrap(), forest([0, 0, 2, 3], [0, 2, 2, 3]));
+    let rising = Order::Rising;
+    assert_eq!(lyndon::factorization_ranked(b"abAa", rising).unwrap(), Factorization { starts: vec![0, 2], comparisons: 3 });
+    assert_eq!(lyndon::suffix_table_ranked(b"abAa", rising).unwrap(), [1, 2, 1, 2]);
+    assert_eq!(lyndon::left_forest_ranked(b"abAa", rising).unwrap(), forest([0, 0, 2, 2], [0, 2, 2, 4]));
+    for (text, starts) in [(b"z[", &[0][..]), (b"[z", &[0, 1]), (b"@a", &[0]), (b"a@", &[0, 1]), (b"z{", &[0]), (b"Aa", &[0, 1])] {
+        assert_eq!(lyndon::factorization(text).unwrap().starts, starts);
+    }
+    // Runs go by equal bytes, not by any order.
+    assert_eq!(lyndon::runs(b"aA").unwrap(), []);
+    assert_eq!(lyndon::runs_ranked(b"aA", &Ranks::default()).unwrap(), [Run { start: 0, last: 1, period: 1 }]);
 }
 
 #[test]
@@ -104,7 +145,8 @@ fn worked_examples_by_rank() {
     let by_number = Ranks::new(std::array::from_fn(|letter| letter as u8));
     let turned = Ranks::new(std::array::from_fn(|letter| 255 - letter as u8));
     let few = Ranks::from_groups(&["aA", "bB"]).unwrap();
-    for order in [LetterOrder::Rising, LetterOrder::from(&by_number), LetterOrder::from(&few)] {
+    let folded = Ranks::default();
+    for order in [LetterOrder::Rising, LetterOrder::from(&by_number), LetterOrder::from(&few), LetterOrder::from(&folded)] {
         let array = |text: &[u8]| lyndon::lyndon_array_ranked(text, order).unwrap();
         assert_eq!(array(b"a"), [1]);
         assert_eq!(array(b"ba"), [1, 1]);

@@ -3,23 +3,34 @@
 use mathlib.Core.List.{List}
 use Prim.Native.Nat.{ℕ}
 use lib.ListN.{length}
-use Rattle.words.specs.Decided.{decided-order}
+use Rattle.words.specs.Decided.{decided-rising, decided-order}
 use Rattle.words.specs.Compute.Factorization.{factorizationOf}
 use Rattle.words.specs.Compute.SuffixTable.{suffixTableOf}
 use Rattle.answer.specs.declared.Answer.{Answer}
 use Rattle.answer.specs.Answers.{acceptedWith, acceptedAfter}
 use Rattle.checks.specs.Checks.{textChecked, rankedTextChecked}
 use Rattle.letters.specs.Ranks.{directionOf, rowIn}
-use Rattle.factors.specs.Default.{decided-default}
+use Rattle.letters.specs.Default.{defaultRow}
 use Rattle.factors.specs.Duval.{duval}
 
--- The factor list of x, in a buffer of `given` places: the count is the number of factors, the comparisons are those of Duval's scan
--- (document 02, E7).
-abbrev pub factorizationAnswer : List ℕ → ℕ → Answer
-factorizationAnswer x given =
-    textChecked (length x) given (acceptedAfter (length (factorizationOf decided-default x)) (duval decided-default 0 x .comparisons))
+-- The factor list of x in the default order (document 02, E12): that of its row of ranks, rising.
+abbrev pub defaultFactors : List ℕ → List ℕ
+defaultFactors x = factorizationOf decided-rising (defaultRow x)
 
--- The Lyndon suffix table of x, in a buffer of `given` places: the count is the number of letters.
+-- How many letter comparisons Duval's scan makes in the default order (document 02, E7 and E12): those of the row of ranks.
+abbrev pub defaultComparisons : List ℕ → ℕ
+defaultComparisons x = duval decided-rising 0 (defaultRow x) .comparisons
+
+-- The Lyndon suffix table of x in the default order (document 02, E12).
+abbrev pub defaultSuffixTable : List ℕ → List ℕ
+defaultSuffixTable x = suffixTableOf decided-rising (defaultRow x)
+
+-- The call that lists the factors, in a buffer of `given` places: the count is the number of factors, the comparisons are those of Duval's
+-- scan (document 02, E7).
+abbrev pub factorizationAnswer : List ℕ → ℕ → Answer
+factorizationAnswer x given = textChecked (length x) given (acceptedAfter (length (defaultFactors x)) (defaultComparisons x))
+
+-- The call that writes the Lyndon suffix table, in a buffer of `given` places: the count is the number of letters.
 abbrev pub suffixTableAnswer : List ℕ → ℕ → Answer
 suffixTableAnswer x given = textChecked (length x) given (acceptedWith (length x))
 

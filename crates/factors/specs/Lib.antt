@@ -1,9 +1,9 @@
-pub mod Default
 pub mod Duval
 pub mod DuvalSteps
 pub mod DuvalTurns
 pub mod DuvalFactorization
 pub mod DuvalCount
+pub mod DuvalAlike
 pub mod DuvalPast
 pub mod DuvalIndexed
 pub mod Results
@@ -11,3 +11,5 @@ pub mod Answers
 pub mod Theorems
 pub mod RankTheorems
 pub mod RankExamples
+pub mod DefaultTheorems
+pub mod DefaultExamples

@@ -1,26 +1,27 @@
 -- The ranked calls by order and table (document 02, E1).
 -- Assumes nothing.
 use mathlib.Core.Path.{_≡_, refl, ap, _∙_}
+use mathlib.Core.Bool.{true}
 use mathlib.Core.List.{List}
 use Prim.Native.Nat.{ℕ, zero, suc, _<_, _≤_}
 use native.Mathlib.Omega.{arith}
 use lib.ListN.{length, getD, take, drop}
-use Rattle.words.specs.Letters.{falling}
-use Rattle.words.specs.Decided.{decided-falling}
+use Rattle.words.specs.Letters.{orderOf}
+use Rattle.words.specs.Decided.{decided-order}
 use Rattle.words.specs.Factorization.{IsFactorization}
 use Rattle.words.specs.SuffixTable.{IsSuffixTable}
 use Rattle.words.specs.Compute.Factorization.{factorizationOf}
 use Rattle.answer.specs.declared.Answer.{Answer}
 use Rattle.answer.specs.Answers.{acceptedWith, acceptedAfter}
 use Rattle.answer.specs.AfterCall.{contentAfter}
-use Rattle.answer.specs.Limits.{Sized, tableLength}
-use Rattle.checks.specs.Checks.{outputChecked}
-use Rattle.letters.specs.Ranks.{rankRow}
+use Rattle.answer.specs.Limits.{Sized, rankedOrder, tableLength}
+use Rattle.checks.specs.Checks.{outputChecked, usesTable}
+use Rattle.letters.specs.Ranks.{rankRow, rowIn, directionOf}
 use Rattle.letters.specs.RankLaws.{row-checked, identity-row}
 use Rattle.factors.specs.Duval.{duval}
-use Rattle.factors.specs.Answers.{factorizationAnswer, suffixTableAnswer, factorsIn, scanComparisons, suffixTableIn}
+use Rattle.factors.specs.Answers.{factorsIn, scanComparisons, suffixTableIn}
 use Rattle.factors.specs.Answers.{factorizationRankedAnswer, suffixTableRankedAnswer}
-use Rattle.factors.specs.Theorems.{startsAfter, tableAfter, factorsRankedAfter, suffixTableRankedAfter, factorization-ranked-accepts, factorization-ranked-written}
+use Rattle.factors.specs.Theorems.{factorsRankedAfter, suffixTableRankedAfter, factorization-ranked-accepts, factorization-ranked-written}
 use Rattle.factors.specs.Theorems.{factorization-ranked-rest, suffix-table-ranked-accepts, suffix-table-ranked-written, suffix-table-ranked-rest}
 
 -- All answers by a table are those in order 0 for the row of ranks: over every table of 256 entries, every text, also one that is refused,
@@ -78,37 +79,44 @@ suffix-table-unranked zero l table t x out = (refl, refl)
 suffix-table-unranked (suc zero) l table t x out = (refl, refl)
 suffix-table-unranked (suc (suc order)) l table t x out = absurd (omega arith)
 
-module _ (table x out : List ℕ) where
-  -- Order 0 is the call without an order.
-  pub factors-rising :
-      (factorizationRankedAnswer 0 table x (length out) ≡ factorizationAnswer x (length out)) × (factorsRankedAfter 0 table x out ≡ startsAfter x out)
-  factors-rising = (refl, refl)
+-- Orders 0 and 1 are the definitions under rising and falling letters: a text of 1 to 1,048,576 letters, with a buffer that is long enough, is
+-- accepted, the count, and of the factor list the comparisons, are those of the definition, the places counted hold it, and the others what
+-- they held before.
+module _ (table x out : List ℕ) (sized : Sized (length x)) (room : length x ≤ length out) where
+  -- The same in every order, of what is compared in it.
+  factors-of-order : (order : ℕ) → order ≤ rankedOrder → (usesTable order ≡ true → length table ≡ tableLength) →
+      let k = length (factorsIn order table x) in
+      (factorizationRankedAnswer order table x (length out) ≡ acceptedAfter k (scanComparisons order table x)) ×
+      IsFactorization (orderOf (directionOf order)) (rowIn order table x) (take k (factorsRankedAfter order table x out)) ×
+      (drop k (factorsRankedAfter order table x out) ≡ drop k out)
+  factors-of-order order named fits = (
+    factorization-ranked-accepts x sized out room order table named fits,
+    factorization-ranked-written x sized out room order table named fits,
+    factorization-ranked-rest x sized out room order table named fits,
+  )
 
-  pub suffix-table-rising :
-      (suffixTableRankedAnswer 0 table x (length out) ≡ suffixTableAnswer x (length out)) × (suffixTableRankedAfter 0 table x out ≡ tableAfter x out)
-  suffix-table-rising = (refl, refl)
+  pub factors-by-number : (order : ℕ) → order ≤ 1 →
+      let k = length (factorizationOf (decided-order order) x) in
+      (factorizationRankedAnswer order table x (length out) ≡ acceptedAfter k (duval (decided-order order) 0 x .comparisons)) ×
+      IsFactorization (orderOf order) x (take k (factorsRankedAfter order table x out)) × (drop k (factorsRankedAfter order table x out) ≡ drop k out)
+  factors-by-number zero l = factors-of-order 0 (omega arith) (λ e. cc)
+  factors-by-number (suc zero) l = factors-of-order 1 (omega arith) (λ e. cc)
+  factors-by-number (suc (suc order)) l = absurd (omega arith)
 
-  -- Order 1 is the definition under falling letters: a text of 1 to 1,048,576 letters, with a buffer that is long enough, is accepted, the
-  -- count, and of the factor list the comparisons, are those of the definition, the places counted hold it, and the others what they held
-  -- before.
-  module _ (sized : Sized (length x)) (room : length x ≤ length out) where
-    pub factors-falling :
-        let k = length (factorizationOf decided-falling x) in
-        (factorizationRankedAnswer 1 table x (length out) ≡ acceptedAfter k (duval decided-falling 0 x .comparisons)) ×
-        IsFactorization falling x (take k (factorsRankedAfter 1 table x out)) ×
-        (drop k (factorsRankedAfter 1 table x out) ≡ drop k out)
-    factors-falling = (
-      factorization-ranked-accepts x sized out room 1 table (omega arith) (λ e. cc),
-      factorization-ranked-written x sized out room 1 table (omega arith) (λ e. cc),
-      factorization-ranked-rest x sized out room 1 table (omega arith) (λ e. cc),
-    )
+  suffix-table-of-order : (order : ℕ) → order ≤ rankedOrder → (usesTable order ≡ true → length table ≡ tableLength) →
+      (suffixTableRankedAnswer order table x (length out) ≡ acceptedWith (length x)) ×
+      IsSuffixTable (orderOf (directionOf order)) (rowIn order table x) (take (length x) (suffixTableRankedAfter order table x out)) ×
+      (drop (length x) (suffixTableRankedAfter order table x out) ≡ drop (length x) out)
+  suffix-table-of-order order named fits = (
+    suffix-table-ranked-accepts x sized out room order table named fits,
+    suffix-table-ranked-written x sized out room order table named fits,
+    suffix-table-ranked-rest x sized out room order table named fits,
+  )
 
-    pub suffix-table-falling :
-        (suffixTableRankedAnswer 1 table x (length out) ≡ acceptedWith (length x)) ×
-        IsSuffixTable falling x (take (length x) (suffixTableRankedAfter 1 table x out)) ×
-        (drop (length x) (suffixTableRankedAfter 1 table x out) ≡ drop (length x) out)
-    suffix-table-falling = (
-      suffix-table-ranked-accepts x sized out room 1 table (omega arith) (λ e. cc),
-      suffix-table-ranked-written x sized out room 1 table (omega arith) (λ e. cc),
-      suffix-table-ranked-rest x sized out room 1 table (omega arith) (λ e. cc),
-    )
+  pub suffix-table-by-number : (order : ℕ) → order ≤ 1 →
+      (suffixTableRankedAnswer order table x (length out) ≡ acceptedWith (length x)) ×
+      IsSuffixTable (orderOf order) x (take (length x) (suffixTableRankedAfter order table x out)) ×
+      (drop (length x) (suffixTableRankedAfter order table x out) ≡ drop (length x) out)
+  suffix-table-by-number zero l = suffix-table-of-order 0 (omega arith) (λ e. cc)
+  suffix-table-by-number (suc zero) l = suffix-table-of-order 1 (omega arith) (λ e. cc)
+  suffix-table-by-number (suc (suc order)) l = absurd (omega arith)

@@ -1,19 +1,17 @@
 // The factor list of a byte text.
-use super::order;
 use super::scan::Scanned;
 use super::scan::stretch_at;
 use answer::Answer;
 use checks::Check;
+use checks::limits;
 ghost use mathlib.Core.Path.{_≡_};
 ghost use lib.ListN.{length};
 ghost use Rattle.words.specs.Decided.{decided-order};
-ghost use Rattle.words.specs.Compute.Factorization.{factorizationOf};
 ghost use Rattle.answer.specs.AfterCall.{contentAfter};
 ghost use Rattle.answer.specs.Content.{TextRoom};
 ghost use Rattle.letters.specs.Ranks.{rankRow};
-ghost use Rattle.factors.specs.Default.{decided-default};
 ghost use Rattle.factors.specs.Results.{FactorsListed};
-ghost use Rattle.factors.specs.Answers.{factorizationAnswer, factorsIn, factorizationRankedAnswer};
+ghost use Rattle.factors.specs.Answers.{defaultFactors, factorizationAnswer, factorsIn, factorizationRankedAnswer};
 
 // How many factors were listed, and how many letter comparisons that took.
 pub struct Listed {
@@ -76,11 +74,12 @@ pub fn factorization_ranked(text: &[u8], order: u32, table: &[u8], out: &mut [u3
     }
 }
 
-// Writes the starts of the factors of `text` into `out`; the count is their number, and the comparisons
-// are those of Duval's scan.
+// Writes the starts of the factors of `text`, in the default order, into `out`; the count is their
+// number, and the comparisons are those of Duval's scan.
 pub fn factorization(text: &[u8], out: &mut [u32]) -> Answer
     ensures answer { λ r. ⌜ r ≡ factorizationAnswer (now (text .entry)) (length (now (out .entry))) ⌝ }
-    ensures content { λ r. ⌜ now (out .exit) ≡ contentAfter r (factorizationOf decided-default (now (text .entry))) (now (out .entry)) ⌝ }
+    ensures content { λ r. ⌜ now (out .exit) ≡ contentAfter r (defaultFactors (now (text .entry))) (now (out .entry)) ⌝ }
 {
-    factorization_ranked(text, order::DEFAULT, &text[..0], out)
+    let table = letters::built_in::default_table();
+    factorization_ranked(text, limits::RANKED, &table, out)
 }

@@ -3,6 +3,5 @@
 //
 // Contracts cite `specs/Answers.antt` and the definitions of `words`. Nothing is assumed.
 pub mod factorization;
-pub mod order;
 mod scan;
 pub mod suffix_table;

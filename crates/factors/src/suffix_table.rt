@@ -1,20 +1,18 @@
 // The Lyndon suffix table of a byte text (document 000's LYNDONSUFFIXTABLE).
-use super::order;
 use super::scan::Stretch;
 use answer::Answer;
 use checks::Check;
+use checks::limits;
 use letters::Comparison;
 ghost use mathlib.Core.Path.{_≡_};
 ghost use Prim.Native.Nat.{_<_};
 ghost use lib.ListN.{length};
 ghost use Rattle.words.specs.Letters.{orderOf};
-ghost use Rattle.words.specs.Compute.SuffixTable.{suffixTableOf};
 ghost use Rattle.answer.specs.AfterCall.{contentAfter};
 ghost use Rattle.answer.specs.Content.{TextRoom};
 ghost use Rattle.letters.specs.Ranks.{rankRow};
-ghost use Rattle.factors.specs.Default.{decided-default};
 ghost use Rattle.factors.specs.Results.{AllTabled, Startable, Covered, TableFilled};
-ghost use Rattle.factors.specs.Answers.{suffixTableAnswer, suffixTableIn, suffixTableRankedAnswer};
+ghost use Rattle.factors.specs.Answers.{defaultSuffixTable, suffixTableAnswer, suffixTableIn, suffixTableRankedAnswer};
 
 // The scan from `start`, which writes the entry of each position that it reads: behind a greater
 // letter the longest Lyndon word is all that was read, and behind an equal one it is that of the
@@ -112,10 +110,12 @@ pub fn suffix_table_ranked(text: &[u8], order: u32, table: &[u8], out: &mut [u32
     }
 }
 
-// Writes the Lyndon suffix table of `text` into `out`; the count is the number of letters.
+// Writes the Lyndon suffix table of `text`, in the default order, into `out`; the count is the number of
+// letters.
 pub fn suffix_table(text: &[u8], out: &mut [u32]) -> Answer
     ensures answer { λ r. ⌜ r ≡ suffixTableAnswer (now (text .entry)) (length (now (out .entry))) ⌝ }
-    ensures content { λ r. ⌜ now (out .exit) ≡ contentAfter r (suffixTableOf decided-default (now (text .entry))) (now (out .entry)) ⌝ }
+    ensures content { λ r. ⌜ now (out .exit) ≡ contentAfter r (defaultSuffixTable (now (text .entry))) (now (out .entry)) ⌝ }
 {
-    suffix_table_ranked(text, order::DEFAULT, &text[..0], out)
+    let table = letters::built_in::default_table();
+    suffix_table_ranked(text, limits::RANKED, &table, out)
 }

@@ -1,6 +1,7 @@
-// Runs the factor list, the Lyndon suffix table and the left forest on worked examples of document 01
-// and on inputs that are refused. A line shows an answer's number, value and comparisons, and then each
-// place of a buffer that held 99 everywhere.
+// Runs the factor list, the Lyndon suffix table and the left forest, in the default order, on worked
+// examples of document 01, on inputs that are refused and on texts in mixed case; of the last the factor
+// list in order 0 too. A line shows an answer's number, value and comparisons, and then each place of a
+// buffer that held 99 everywhere.
 use answer::Answer;
 use libc::STDOUT_FILENO;
 
@@ -35,6 +36,13 @@ fn print_factorization(text: &[u8]) {
     print_line(a, &out);
 }
 
+// The factor list in order 0, which looks at no table.
+fn print_rising_factorization(text: &[u8]) {
+    let mut out = [99u32; 16];
+    let a = factors::factorization::factorization_ranked(text, 0, b"", &mut out);
+    print_line(a, &out);
+}
+
 fn print_suffix_table(text: &[u8]) {
     let mut out = [99u32; 16];
     let a = factors::suffix_table::suffix_table(text, &mut out);
@@ -62,4 +70,10 @@ fn main() {
     print_left_forest(b"");
     print_left_forest(b"aababb");
     print_left_forest(b"aababba");
+    print_factorization(b"aB");
+    print_rising_factorization(b"aB");
+    print_factorization(b"TaTAt");
+    print_rising_factorization(b"TaTAt");
+    print_suffix_table(b"TaTAt");
+    print_left_forest(b"TaTAt");
 }

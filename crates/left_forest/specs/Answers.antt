@@ -3,25 +3,25 @@
 use mathlib.Core.List.{List}
 use Prim.Native.Nat.{ℕ}
 use lib.ListN.{length}
-use Rattle.words.specs.Decided.{decided-order}
-use Rattle.words.specs.Compute.Factorization.{factorizationOf}
+use Rattle.words.specs.Decided.{decided-rising, decided-order}
 use Rattle.words.specs.Compute.LeftForest.{leftFirstOf, leftPastOf}
 use Rattle.answer.specs.declared.Answer.{Answer}
 use Rattle.answer.specs.Answers.{acceptedWith}
 use Rattle.checks.specs.Checks.{forestChecked, rankedForestChecked}
 use Rattle.letters.specs.Ranks.{directionOf, rowIn}
-use Rattle.factors.specs.Default.{decided-default}
-use Rattle.factors.specs.Answers.{factorsIn}
+use Rattle.letters.specs.Default.{defaultRow}
+use Rattle.factors.specs.Answers.{defaultFactors, factorsIn}
 
--- FIRST of the left forest, in the default order.
-abbrev pub leftFirst : List ℕ → List ℕ
-leftFirst x = leftFirstOf decided-default x (factorizationOf decided-default x)
+-- FIRST of the left forest in the default order (document 02, E12): that of the row of ranks, rising.
+abbrev pub defaultLeftFirst : List ℕ → List ℕ
+defaultLeftFirst x = leftFirstOf decided-rising (defaultRow x) (defaultFactors x)
 
--- PAST of the left forest, in the default order.
-abbrev pub leftPast : List ℕ → List ℕ
-leftPast x = leftPastOf decided-default x (factorizationOf decided-default x)
+-- And PAST (document 02, E12).
+abbrev pub defaultLeftPast : List ℕ → List ℕ
+defaultLeftPast x = leftPastOf decided-rising (defaultRow x) (defaultFactors x)
 
--- The left forest of x, in buffers of `in-first` and `in-past` places: refused where either is short; the count is the number of letters.
+-- The call that writes the left forest of x, in buffers of `in-first` and `in-past` places: refused where either is short; the count is the
+-- number of letters.
 abbrev pub leftForestAnswer : List ℕ → ℕ → ℕ → Answer
 leftForestAnswer x in-first in-past = forestChecked (length x) in-first in-past (acceptedWith (length x))
 

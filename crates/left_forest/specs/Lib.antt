@@ -4,3 +4,5 @@ pub mod Answers
 pub mod Theorems
 pub mod RankTheorems
 pub mod RankExamples
+pub mod DefaultTheorems
+pub mod DefaultExamples

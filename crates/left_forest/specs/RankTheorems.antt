@@ -1,21 +1,23 @@
 -- The ranked call by order and table (document 02, E1).
 -- Assumes nothing.
 use mathlib.Core.Path.{_≡_, refl, ap, _∙_}
+use mathlib.Core.Bool.{true}
 use mathlib.Core.List.{List}
 use Prim.Native.Nat.{ℕ, zero, suc, _<_, _≤_}
 use native.Mathlib.Omega.{arith}
 use lib.ListN.{length, getD, take, drop}
-use Rattle.words.specs.Letters.{falling}
+use Rattle.words.specs.Letters.{orderOf}
 use Rattle.words.specs.LeftForest.{IsLeftForest}
 use Rattle.answer.specs.declared.Answer.{Answer}
 use Rattle.answer.specs.Answers.{acceptedWith}
 use Rattle.answer.specs.AfterCall.{contentAfter}
-use Rattle.answer.specs.Limits.{Sized, tableLength}
-use Rattle.checks.specs.Checks.{outputChecked}
-use Rattle.letters.specs.Ranks.{rankRow}
+use Rattle.answer.specs.Limits.{Sized, rankedOrder, tableLength}
+use Rattle.checks.specs.Checks.{outputChecked, usesTable}
+use Rattle.letters.specs.Ranks.{rankRow, rowIn, directionOf}
 use Rattle.letters.specs.RankLaws.{row-checked, identity-row}
-use Rattle.left_forest.specs.Answers.{leftForestAnswer, leftFirstIn, leftPastIn, leftForestRankedAnswer}
-use Rattle.left_forest.specs.Theorems.{leftFirstAfter, leftPastAfter, leftFirstRankedAfter, leftPastRankedAfter, left-forest-ranked-accepts, left-forest-ranked-written, left-forest-ranked-rest}
+use Rattle.left_forest.specs.Answers.{leftFirstIn, leftPastIn, leftForestRankedAnswer}
+use Rattle.left_forest.specs.Theorems.{leftFirstRankedAfter, leftPastRankedAfter}
+use Rattle.left_forest.specs.Theorems.{left-forest-ranked-accepts, left-forest-ranked-written, left-forest-ranked-rest}
 
 -- All answers by a table are those in order 0 for the row of ranks: over every table of 256 entries, every text, also one that is refused,
 -- and every two buffers. In order 0 the table t is not looked at.
@@ -59,25 +61,35 @@ left-forest-unranked zero l table t x first past = (refl, refl, refl)
 left-forest-unranked (suc zero) l table t x first past = (refl, refl, refl)
 left-forest-unranked (suc (suc order)) l table t x first past = absurd (omega arith)
 
-module _ (table x first past : List ℕ) where
-  -- Order 0 is the call without an order.
-  pub left-forest-rising :
-      (leftForestRankedAnswer 0 table x (length first) (length past) ≡ leftForestAnswer x (length first) (length past)) ×
-      (leftFirstRankedAfter 0 table x first past ≡ leftFirstAfter x first past) × (leftPastRankedAfter 0 table x first past ≡ leftPastAfter x first past)
-  left-forest-rising = (refl, refl, refl)
-
-  -- Order 1 is the definition under falling letters: a text of 1 to 1,048,576 letters, with two buffers that are long enough, is accepted, the
-  -- count is n, the first n places of both hold its left forest, and the others what they held before.
-  module _ (sized : Sized (length x)) (first-room : length x ≤ length first) (past-room : length x ≤ length past) where
-    pub left-forest-falling :
-        (leftForestRankedAnswer 1 table x (length first) (length past) ≡ acceptedWith (length x)) ×
-        IsLeftForest falling x (take (length x) (leftFirstRankedAfter 1 table x first past)) (take (length x) (leftPastRankedAfter 1 table x first past)) ×
-        (drop (length x) (leftFirstRankedAfter 1 table x first past) ≡ drop (length x) first) ×
-        (drop (length x) (leftPastRankedAfter 1 table x first past) ≡ drop (length x) past)
-    left-forest-falling =
-        let rest = left-forest-ranked-rest x sized first past first-room past-room 1 table (omega arith) (λ e. cc) in (
-          left-forest-ranked-accepts x sized first past first-room past-room 1 table (omega arith) (λ e. cc),
-          left-forest-ranked-written x sized first past first-room past-room 1 table (omega arith) (λ e. cc),
+-- Orders 0 and 1 are the definitions under rising and falling letters: a text of 1 to 1,048,576 letters, with two buffers that are long enough, is
+-- accepted, the count is n, the first n places of both hold its left forest, and the others what they held before.
+module _
+    (table x first past : List ℕ)
+    (sized : Sized (length x))
+    (first-room : length x ≤ length first)
+    (past-room : length x ≤ length past)
+  where
+    -- The same in every order, of what is compared in it.
+    left-forest-of-order : (order : ℕ) → order ≤ rankedOrder → (usesTable order ≡ true → length table ≡ tableLength) →
+        (leftForestRankedAnswer order table x (length first) (length past) ≡ acceptedWith (length x)) ×
+        IsLeftForest (orderOf (directionOf order)) (rowIn order table x) (take (length x) (leftFirstRankedAfter order table x first past))
+        (take (length x) (leftPastRankedAfter order table x first past)) ×
+        (drop (length x) (leftFirstRankedAfter order table x first past) ≡ drop (length x) first) ×
+        (drop (length x) (leftPastRankedAfter order table x first past) ≡ drop (length x) past)
+    left-forest-of-order order named fits =
+        let rest = left-forest-ranked-rest x sized first past first-room past-room order table named fits in (
+          left-forest-ranked-accepts x sized first past first-room past-room order table named fits,
+          left-forest-ranked-written x sized first past first-room past-room order table named fits,
           rest .0,
           rest .1,
         )
+
+    pub left-forest-by-number : (order : ℕ) → order ≤ 1 →
+        (leftForestRankedAnswer order table x (length first) (length past) ≡ acceptedWith (length x)) ×
+        IsLeftForest (orderOf order) x (take (length x) (leftFirstRankedAfter order table x first past))
+        (take (length x) (leftPastRankedAfter order table x first past)) ×
+        (drop (length x) (leftFirstRankedAfter order table x first past) ≡ drop (length x) first) ×
+        (drop (length x) (leftPastRankedAfter order table x first past) ≡ drop (length x) past)
+    left-forest-by-number zero l = left-forest-of-order 0 (omega arith) (λ e. cc)
+    left-forest-by-number (suc zero) l = left-forest-of-order 1 (omega arith) (λ e. cc)
+    left-forest-by-number (suc (suc order)) l = absurd (omega arith)

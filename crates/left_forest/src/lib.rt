@@ -4,7 +4,7 @@
 // Contracts cite `specs/Answers.antt`. Nothing is assumed.
 use answer::Answer;
 use checks::Check;
-use factors::order;
+use checks::limits;
 use factors::suffix_table::suffix_table_ranked;
 use letters::wide;
 ghost use mathlib.Core.Path.{_≡_};
@@ -12,7 +12,7 @@ ghost use Prim.Native.Nat.{ℕ};
 ghost use lib.ListN.{length};
 ghost use Rattle.answer.specs.AfterCall.{contentAfter};
 ghost use Rattle.left_forest.specs.Results.{Growable, Grown};
-ghost use Rattle.left_forest.specs.Answers.{leftFirst, leftPast, leftForestAnswer, leftFirstIn, leftPastIn, leftForestRankedAnswer};
+ghost use Rattle.left_forest.specs.Answers.{defaultLeftFirst, defaultLeftPast, leftForestAnswer, leftFirstIn, leftPastIn, leftForestRankedAnswer};
 ghost use Rattle.left_forest.specs.Links.{Descends, Linked, Closes, Linkable, Crossed, OwnRoots};
 
 // The word that ends at `e` starts at `last`: from `e` down the links of FIRST, each position above
@@ -98,11 +98,13 @@ pub fn left_forest_ranked(
     }
 }
 
-// Writes the left forest of `text` into `first` and `past`; the count is the number of letters.
+// Writes the left forest of `text`, in the default order, into `first` and `past`; the count is the
+// number of letters.
 pub fn left_forest(text: &[u8], first: &mut [u32], past: &mut [u32]) -> Answer
     ensures answer { λ r. ⌜ r ≡ leftForestAnswer (now (text .entry)) (length (now (first .entry))) (length (now (past .entry))) ⌝ }
-    ensures starts { λ r. ⌜ now (first .exit) ≡ contentAfter r (leftFirst (now (text .entry))) (now (first .entry)) ⌝ }
-    ensures ends { λ r. ⌜ now (past .exit) ≡ contentAfter r (leftPast (now (text .entry))) (now (past .entry)) ⌝ }
+    ensures starts { λ r. ⌜ now (first .exit) ≡ contentAfter r (defaultLeftFirst (now (text .entry))) (now (first .entry)) ⌝ }
+    ensures ends { λ r. ⌜ now (past .exit) ≡ contentAfter r (defaultLeftPast (now (text .entry))) (now (past .entry)) ⌝ }
 {
-    left_forest_ranked(text, order::DEFAULT, &text[..0], first, past)
+    let table = letters::built_in::default_table();
+    left_forest_ranked(text, limits::RANKED, &table, first, past)
 }

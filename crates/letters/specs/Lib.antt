@@ -1,7 +1,9 @@
 pub mod Compared
 pub mod Ranks
 pub mod BuiltIn
+pub mod Default
 pub mod Keys
 pub mod RankLaws
 pub mod BuiltInLaws
+pub mod DefaultLaws
 pub mod RankExample

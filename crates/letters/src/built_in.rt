@@ -2,6 +2,7 @@
 ghost use mathlib.Core.Path.{_≡_};
 ghost use Rattle.letters.specs.Ranks.{ownNumbers};
 ghost use Rattle.letters.specs.BuiltIn.{foldedNumbers, builtInTable};
+ghost use Rattle.letters.specs.Default.{defaultTable};
 
 // Table 0: the rank of each byte is its number.
 const OWN_NUMBERS: [u8; 256] = [
@@ -546,4 +547,12 @@ pub fn table(number: u32) -> [u8; 256]
     } else {
         folded_numbers()
     }
+}
+
+// The table of the default order, that of factor list, suffix table and left forest where the call takes
+// no order: the one place in the code that names it.
+pub fn default_table() -> [u8; 256]
+    ensures entries { λ r. ⌜ r ≡ defaultTable ⌝ }
+{
+    table(1)
 }

@@ -1,6 +1,7 @@
 // Letters of both widths: how two of them compare in an order, bytes by the rank that a table gives them, and numbers of the buffers as positions.
 //
-// Contracts cite `specs/Compared.antt`, `specs/Ranks.antt`, `specs/Keys.antt` and the orders of `words`. Nothing is assumed.
+// Contracts cite `specs/Compared.antt`, `specs/Ranks.antt`, `specs/Keys.antt`, `specs/BuiltIn.antt`, `specs/Default.antt` and the orders of `words`.
+// Nothing is assumed.
 pub mod built_in;
 
 use checks::limits;

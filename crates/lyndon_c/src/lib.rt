@@ -105,7 +105,7 @@ pub extern "C" fn lyndon_runs_ranked(
     exported(array::runs::runs_ranked(text, table, work, list))
 }
 
-// The starts of the Lyndon factors of a text of bytes.
+// The starts of the Lyndon factors of a text of bytes, in the default order.
 #[no_mangle]
 pub extern "C" fn lyndon_factorization(text: &[u8], out: &mut [u32]) -> LyndonAnswer
     ensures answer { λ r. ⌜ r ≡ recordOf (factorizationAnswer (now (text .entry)) (length (now (out .entry)))) ⌝ }
@@ -128,7 +128,7 @@ pub extern "C" fn lyndon_factorization_ranked(
     exported(factors::factorization::factorization_ranked(text, order, table, out))
 }
 
-// The Lyndon suffix table of a text of bytes.
+// The Lyndon suffix table of a text of bytes, in the default order.
 #[no_mangle]
 pub extern "C" fn lyndon_suffix_table(text: &[u8], out: &mut [u32]) -> LyndonAnswer
     ensures answer { λ r. ⌜ r ≡ recordOf (suffixTableAnswer (now (text .entry)) (length (now (out .entry)))) ⌝ }
@@ -151,7 +151,7 @@ pub extern "C" fn lyndon_suffix_table_ranked(
     exported(factors::suffix_table::suffix_table_ranked(text, order, table, out))
 }
 
-// The left Lyndon forest of a text of bytes.
+// The left Lyndon forest of a text of bytes, in the default order.
 #[no_mangle]
 pub extern "C" fn lyndon_left_forest(
     text: &[u8],

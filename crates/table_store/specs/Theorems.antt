@@ -21,14 +21,15 @@ use Rattle.letters.specs.Ranks.{ownNumbers, rankRow}
 use Rattle.letters.specs.RankLaws.{own-numbers-length, own-numbers-entry}
 use Rattle.letters.specs.BuiltIn.{foldedNumbers}
 use Rattle.letters.specs.BuiltInLaws.{built-in-length}
+use Rattle.letters.specs.Default.{defaultTable}
 use Rattle.array.specs.Calls.{arrayRankedAnswer, runList, runsAnswer}
 use Rattle.array.specs.Theorems.{listAfter, workAfter}
 use Rattle.array.specs.RankTheorems.{arrayRankedAfter, array-by-own-rank, runs-by-own-rank}
-use Rattle.factors.specs.Answers.{factorsIn, scanComparisons, factorizationRankedAnswer, suffixTableRankedAnswer}
-use Rattle.factors.specs.Theorems.{factorsRankedAfter, suffixTableRankedAfter}
+use Rattle.factors.specs.Answers.{factorsIn, scanComparisons, factorizationAnswer, factorizationRankedAnswer, suffixTableAnswer, suffixTableRankedAnswer}
+use Rattle.factors.specs.Theorems.{startsAfter, factorsRankedAfter, tableAfter, suffixTableRankedAfter, factorization-default, suffix-table-default}
 use Rattle.factors.specs.RankTheorems.{factors-by-own-rank, suffix-table-by-own-rank}
-use Rattle.left_forest.specs.Answers.{leftForestRankedAnswer}
-use Rattle.left_forest.specs.Theorems.{leftFirstRankedAfter, leftPastRankedAfter}
+use Rattle.left_forest.specs.Answers.{leftForestAnswer, leftForestRankedAnswer}
+use Rattle.left_forest.specs.Theorems.{leftFirstAfter, leftPastAfter, leftFirstRankedAfter, leftPastRankedAfter, left-forest-default}
 use Rattle.left_forest.specs.RankTheorems.{left-forest-by-own-rank}
 use Rattle.table_store.specs.declared.store.TableStore.{TableStore}
 use Rattle.table_store.specs.Store.{groupExists, tableExists, tablePlace, tableStart, newStore, writtenFlag, ownTable}
@@ -210,3 +211,37 @@ module _ (store : TableStore) (group : ℕ) (exists : groupExists group ≡ true
   runs-by-built-in-zero work list =
       let own = runs-by-own-rank ownNumbers own-numbers-length x work list own-numbers-entry bytes in
       (found-answered is-found _ ∙ own .0, found-left is-found _ list ∙ own .1, found-left is-found _ work ∙ own .2)
+
+-- By built-in table 1, that of the default order (document 02, E12), answers and buffers are those of the calls without an order; the array, which
+-- has no such call, is the ranked one in order 2 by that table.
+module _ (store : TableStore) (group : ℕ) (exists : groupExists group ≡ true) (x : List ℕ) where
+  default-found : lookup store group true 1 ≡ found defaultTable
+  default-found = built-in-one store group exists
+
+  pub array-by-built-in-one : (out : List ℕ) →
+      (arrayStoredAnswer (lookup store group true 1) x (length out) ≡ arrayRankedAnswer (length x) 2 (length defaultTable) (length out)) ×
+      (arrayStoredAfter (lookup store group true 1) x out ≡ arrayRankedAfter 2 defaultTable x out)
+  array-by-built-in-one out = (found-answered default-found _, found-left default-found _ out)
+
+  pub factorization-by-built-in-one : (out : List ℕ) →
+      (factorizationStoredAnswer (lookup store group true 1) x (length out) ≡ factorizationAnswer x (length out)) ×
+      (factorsStoredAfter (lookup store group true 1) x out ≡ startsAfter x out)
+  factorization-by-built-in-one out =
+      let same = factorization-default x out in (found-answered default-found _ ∙ sym (same .0), found-left default-found _ out ∙ sym (same .1))
+
+  pub suffix-table-by-built-in-one : (out : List ℕ) →
+      (suffixTableStoredAnswer (lookup store group true 1) x (length out) ≡ suffixTableAnswer x (length out)) ×
+      (suffixTableStoredAfter (lookup store group true 1) x out ≡ tableAfter x out)
+  suffix-table-by-built-in-one out =
+      let same = suffix-table-default x out in (found-answered default-found _ ∙ sym (same .0), found-left default-found _ out ∙ sym (same .1))
+
+  pub left-forest-by-built-in-one : (first past : List ℕ) →
+      (leftForestStoredAnswer (lookup store group true 1) x (length first) (length past) ≡ leftForestAnswer x (length first) (length past)) ×
+      (leftFirstStoredAfter (lookup store group true 1) x first past ≡ leftFirstAfter x first past) ×
+      (leftPastStoredAfter (lookup store group true 1) x first past ≡ leftPastAfter x first past)
+  left-forest-by-built-in-one first past =
+      let same = left-forest-default x first past in (
+        found-answered default-found _ ∙ sym (same .0),
+        found-left default-found _ first ∙ sym (same .1),
+        found-left default-found _ past ∙ sym (same .2),
+      )

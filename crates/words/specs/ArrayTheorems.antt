@@ -96,7 +96,7 @@ pub forest-of-every-text {ℓ κ} : {A : Type ℓ} (O : Letters {ℓ, κ} A) (x 
 forest-of-every-text = array-forest
 
 -- Two texts, over whatever letters and orders, so also two texts of one length under one order, have equal arrays exactly when their factor
--- lists and right forests are equal.
+-- lists and right forests are equal. Array, factor list and right forest of a text are in one order (document 02, E12).
 pub equal-arrays-exactly {ℓ κ ℓ′ κ′} : {A : Type ℓ} {B : Type ℓ′} (O : Letters {ℓ, κ} A) (P : Letters {ℓ′, κ′} B) (x : List A) (y : List B) (a b s t first past first′ past′ : List ℕ)
     → IsLyndonArray O x a → IsLyndonArray P y b
     → IsFactorization O x s → IsFactorization P y t

@@ -49,3 +49,4 @@ pub mod RunExistence
 pub mod RunCount
 pub mod EachRunOnce
 pub mod ListedAlike
+pub mod FormsAlike

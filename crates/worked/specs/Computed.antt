@@ -21,6 +21,7 @@ use Rattle.words.specs.Laws.ForestRecords.{leftForestOf-holds}
 use Rattle.words.specs.Compute.ValidArray.{fits, fault, HasVerdict, checkArray, checkArray-holds}
 use Rattle.words.specs.ArrayForest.{forestFirst, forestPast}
 use Rattle.words.specs.ArrayTheorems.{TextWith, passed-exactly}
+use Rattle.letters.specs.Default.{defaultRow}
 use Rattle.answer.specs.declared.Answer.{Answer}
 use Rattle.valid_array.specs.Faults.{reasonFor}
 use Rattle.answer.specs.Answers.{refusedFor, number, value, comparisons}
@@ -29,30 +30,43 @@ use Rattle.answer.specs.AfterLaws.{content-refused}
 use Rattle.answer.specs.Limits.{Sized}
 use Rattle.valid_array.specs.Answers.{verdictAnswer, arrayChecked}
 use Rattle.from_array.specs.Theorems.{reconstruct-checked, reconstruct-accepts-exactly, written-text, right-forest-checked}
-use Rattle.worked.specs.Example.{Example, array, factors, suffix-table, right-forest, left-forest, text, refused, Says, ExampleHolds, AllHold}
+use Rattle.worked.specs.Example.{Example, array, factors, suffix-table, right-forest, left-forest, text, refused, Says, ByNumberAndByDefault, ExampleHolds, AllHold}
+
+-- The computed left forest of x is f and p.
+abbrev LeftComputed : List ℕ → List ℕ → List ℕ → Type 0
+LeftComputed f p x = let s = factorizationOf decided-rising x in (leftFirstOf decided-rising x s ≡ f) × (leftPastOf decided-rising x s ≡ p)
 
 -- The computed value is the one that the example gives.
 abbrev pub Computed : Example → Type 0
 Computed (array o x a) = arrayOf (decided-order o) x ≡ a
-Computed (factors x s) = factorizationOf decided-rising x ≡ s
-Computed (suffix-table x t) = suffixTableOf decided-rising x ≡ t
+Computed (factors x s) = ByNumberAndByDefault (λ y. factorizationOf decided-rising y ≡ s) x
+Computed (suffix-table x t) = ByNumberAndByDefault (λ y. suffixTableOf decided-rising y ≡ t) x
 Computed (right-forest x f p) = (rightFirstOf decided-rising x ≡ f) × (rightPastOf decided-rising x ≡ p)
-Computed (left-forest x f p) =
-    let s = factorizationOf decided-rising x in (leftFirstOf decided-rising x s ≡ f) × (leftPastOf decided-rising x s ≡ p)
+Computed (left-forest x f p) = ByNumberAndByDefault (LeftComputed f p) x
 Computed (text a x) = Sized (length a) × (checkArray a ≡ fits) × (textFor a ≡ x) × (arrayOf decided-rising x ≡ a)
 Computed (refused a r p) = Sized (length a) × (f : Fault) × (checkArray a ≡ fault f p) × (number (refusedFor (reasonFor f) p) ≡ r)
 
-pub computed-holds : (e : Example) → Computed e → ExampleHolds e
-computed-holds (array o x a) h = subst (IsLyndonArray (orderOf o) x) h (arrayOf-holds (decided-order o) x)
-computed-holds (factors x s) h = subst (IsFactorization rising x) h (factorizationOf-holds decided-rising x)
-computed-holds (suffix-table x t) h = subst (IsSuffixTable rising x) h (suffixTableOf-holds decided-rising x)
-computed-holds (right-forest x f p) h =
-    subst (λ (q : List ℕ). IsRightForest rising x f q) (h .1)
-    (subst (λ (g : List ℕ). IsRightForest rising x g (rightPastOf decided-rising x)) (h .0) (rightForestOf-holds decided-rising x))
-computed-holds (left-forest x f p) h =
+in-both : {P Q : List ℕ → Type 0} → ((y : List ℕ) → P y → Q y) → (x : List ℕ) → ByNumberAndByDefault P x → ByNumberAndByDefault Q x
+in-both f x h = (f x (h .0), f (defaultRow x) (h .1))
+
+left-holds : (f p x : List ℕ) → LeftComputed f p x → IsLeftForest rising x f p
+left-holds f p x h =
     subst (λ (q : List ℕ). IsLeftForest rising x f q) (h .1)
     (subst (λ (g : List ℕ). IsLeftForest rising x g (leftPastOf decided-rising x (factorizationOf decided-rising x))) (h .0)
     (leftForestOf-holds decided-rising x (factorizationOf-holds decided-rising x)))
+
+pub computed-holds : (e : Example) → Computed e → ExampleHolds e
+computed-holds (array o x a) h = subst (IsLyndonArray (orderOf o) x) h (arrayOf-holds (decided-order o) x)
+computed-holds (factors x s) h =
+    in-both {P = λ y. factorizationOf decided-rising y ≡ s} {Q = λ y. IsFactorization rising y s}
+    (λ y e. subst (IsFactorization rising y) e (factorizationOf-holds decided-rising y)) x h
+computed-holds (suffix-table x t) h =
+    in-both {P = λ y. suffixTableOf decided-rising y ≡ t} {Q = λ y. IsSuffixTable rising y t}
+    (λ y e. subst (IsSuffixTable rising y) e (suffixTableOf-holds decided-rising y)) x h
+computed-holds (right-forest x f p) h =
+    subst (λ (q : List ℕ). IsRightForest rising x f q) (h .1)
+    (subst (λ (g : List ℕ). IsRightForest rising x g (rightPastOf decided-rising x)) (h .0) (rightForestOf-holds decided-rising x))
+computed-holds (left-forest x f p) h = in-both {P = LeftComputed f p} {Q = λ y. IsLeftForest rising y f p} (left-holds f p) x h
 computed-holds (text a x) h =
     let sized = h .0 in
     let t : TextWith {0, 0} a = passed-exactly a .0 (h .1) in

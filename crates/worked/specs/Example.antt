@@ -11,6 +11,7 @@ use Rattle.words.specs.SuffixTable.{IsSuffixTable}
 use Rattle.words.specs.RightForest.{IsRightForest}
 use Rattle.words.specs.LeftForest.{IsLeftForest}
 use Rattle.words.specs.ValidArray.{Valid, Fault, FirstFault, textFor}
+use Rattle.letters.specs.Default.{defaultRow}
 use Rattle.answer.specs.declared.Answer.{Answer}
 use Rattle.answer.specs.Answers.{acceptedWith, number, value, comparisons}
 use Rattle.from_array.specs.Answers.{reconstructAnswer, rightForestAnswer}
@@ -52,12 +53,17 @@ pub record Reconstructed (a x : List ℕ) : Type 0 where
   pub accepted : (text : List ℕ) → length a ≤ length text → reconstructAnswer a (length text) ≡ acceptedWith (length a)
   pub left : (text : List ℕ) → length a ≤ length text → take (length a) (textAfter a text) ≡ x
 
+-- A statement holds of a text and of its row of ranks in the default order: so in order 0, which was document 01's default, and in that of
+-- document 02's E12.
+abbrev pub ByNumberAndByDefault : (List ℕ → Type 0) → List ℕ → Type 0
+ByNumberAndByDefault P x = P x × P (defaultRow x)
+
 abbrev pub ExampleHolds : Example → Type 0
 ExampleHolds (array o x a) = IsLyndonArray (orderOf o) x a
-ExampleHolds (factors x s) = IsFactorization rising x s
-ExampleHolds (suffix-table x t) = IsSuffixTable rising x t
+ExampleHolds (factors x s) = ByNumberAndByDefault (λ y. IsFactorization rising y s) x
+ExampleHolds (suffix-table x t) = ByNumberAndByDefault (λ y. IsSuffixTable rising y t) x
 ExampleHolds (right-forest x f p) = IsRightForest rising x f p
-ExampleHolds (left-forest x f p) = IsLeftForest rising x f p
+ExampleHolds (left-forest x f p) = ByNumberAndByDefault (λ y. IsLeftForest rising y f p) x
 ExampleHolds (text a x) = Reconstructed a x
 ExampleHolds (refused a r p) = ArrayRefused a r p
 

@@ -6,6 +6,7 @@ use Prim.Native.Nat.{ℕ}
 use lib.ListN.{drop}
 use lib.Dec.{T, leb, lit≤}
 use Rattle.words.specs.ValidArray.{crossing}
+use Rattle.letters.specs.BuiltIn.{foldedNumbers}
 use Rattle.answer.specs.Limits.{maxLength, Sized}
 use Rattle.worked.specs.Example.{Example, array, factors, suffix-table, right-forest, left-forest, text, refused, AllHold}
 use Rattle.worked.specs.Computed.{AllComputed, all-computed-hold}
@@ -51,4 +52,7 @@ from-k10 = ((in-limits 10 tt tt, refl, refl, refl), ((in-limits 3 tt tt, crossin
 
 -- Every example of the table holds.
 pub table-holds : AllHold table
-table-holds = all-computed-hold table (refl, (refl, (refl, (refl, (refl, (refl, (refl, (refl, ((refl, refl), ((refl, refl), from-k10))))))))))
+unfolding foldedNumbers
+table-holds =
+    all-computed-hold table
+    (refl, (refl, (refl, (refl, (refl, (refl, ((refl, refl), ((refl, refl), ((refl, refl), (((refl, refl), (refl, refl)), from-k10))))))))))

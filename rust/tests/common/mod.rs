@@ -4,7 +4,7 @@
 pub mod json;
 pub mod lister;
 
-use crate::definitions::{list_length, Expected};
+use crate::definitions::{self, built_in, default_answer, list_length, Expected};
 use lyndon::Error;
 use std::fmt::Debug;
 
@@ -93,6 +93,18 @@ pub fn compare_all<T: Filler, C: Copy + PartialEq + Debug>(what: &str, got: Resu
     }
 }
 
+/// What a call on buffers of these lengths answers, and all of their content afterwards.
+pub fn outcome<const N: usize, A>(places: [usize; N], call: impl FnOnce(&mut [Vec<u32>; N]) -> A) -> (A, [Vec<u32>; N]) {
+    let mut buffers = places.map(|places| vec![0; places]);
+    buffers.iter_mut().for_each(|buffer| fill(buffer));
+    (call(&mut buffers), buffers)
+}
+
+/// A text as a failure shows it.
+pub fn shown(x: &[u8]) -> String {
+    format!("{} letters {:?}..", x.len(), &x[..x.len().min(60)])
+}
+
 /// Makes a call, and holds its input to what it was before.
 pub fn kept<T: Copy + PartialEq, R>(input: &[T], call: impl FnOnce() -> R) -> R {
     let before = input.to_vec();
@@ -101,7 +113,7 @@ pub fn kept<T: Copy + PartialEq, R>(input: &[T], call: impl FnOnce() -> R) -> R 
     got
 }
 
-// The calls, by the C interface.
+// The calls, by the C interface. Factors, suffix table and left forest without an order are in the default order.
 
 pub fn array8(text: &[u8], order: u32, out: &mut [u32]) -> Result<usize, Error> {
     fill(out);
@@ -193,10 +205,15 @@ pub type ByStore = fn(&ffi::Store, ffi::TableName, &[u8], &mut [u32], &mut [u32]
 /// The ranked call that does the same in order 2: text, table, two buffers.
 pub type ByTable = fn(&[u8], &[u8], &mut [u32], &mut [u32]) -> ffi::Answer;
 
+/// The call without an order, which does the same by built-in table 1: text, two buffers.
+pub type ByDefault = fn(&[u8], &mut [u32], &mut [u32]) -> ffi::Answer;
+
 pub struct TableUse {
     pub name: &'static str,
     pub by_store: ByStore,
     pub by_table: ByTable,
+    /// None of the array, which always takes an order, and of the runs, which take none and go by equal bytes.
+    pub by_default: Option<ByDefault>,
     /// The places of each buffer that `n` letters need.
     pub needs: fn(usize) -> [usize; 2],
     /// The refusal where a buffer has fewer.
@@ -208,6 +225,7 @@ pub static TABLE_USES: [TableUse; 5] = [
         name: "array",
         by_store: |store, name, text, out, _| ffi::store_array(store, name, text, out),
         by_table: |text, table, out, _| ffi::array_ranked(text, 2, table, out),
+        by_default: None,
         needs: |n| [n, 0],
         short: [4, 4],
     },
@@ -215,6 +233,7 @@ pub static TABLE_USES: [TableUse; 5] = [
         name: "factors",
         by_store: |store, name, text, out, _| ffi::store_factorization(store, name, text, out),
         by_table: |text, table, out, _| ffi::factorization_ranked(text, 2, table, out),
+        by_default: Some(|text, out, _| ffi::factorization(text, out)),
         needs: |n| [n, 0],
         short: [4, 4],
     },
@@ -222,6 +241,7 @@ pub static TABLE_USES: [TableUse; 5] = [
         name: "suffix table",
         by_store: |store, name, text, out, _| ffi::store_suffix_table(store, name, text, out),
         by_table: |text, table, out, _| ffi::suffix_table_ranked(text, 2, table, out),
+        by_default: Some(|text, out, _| ffi::suffix_table(text, out)),
         needs: |n| [n, 0],
         short: [4, 4],
     },
@@ -229,11 +249,60 @@ pub static TABLE_USES: [TableUse; 5] = [
         name: "left forest",
         by_store: ffi::store_left_forest,
         by_table: |text, table, first, past| ffi::left_forest_ranked(text, 2, table, first, past),
+        by_default: Some(ffi::left_forest),
         needs: |n| [n, n],
         short: [4, 4],
     },
-    TableUse { name: "runs", by_store: ffi::store_runs, by_table: ffi::runs_ranked, needs: |n| [2 * n, list_length(n)], short: [5, 4] },
+    TableUse {
+        name: "runs",
+        by_store: ffi::store_runs,
+        by_table: ffi::runs_ranked,
+        by_default: None,
+        needs: |n| [2 * n, list_length(n)],
+        short: [5, 4],
+    },
 ];
+
+/// The calls without an order on buffers of these lengths, the second that of the left forest's PAST: answers, and all that the buffers hold
+/// afterwards, are those of order 2 by built-in table 1, given the table and by the store (document 02, E12).
+pub fn check_default_by_table(x: &[u8], places: [usize; 2]) {
+    let (store, name) = (ffi::store_new(), ffi::TableName { group: 1, built_in: 1, number: 1 });
+    for by in &TABLE_USES {
+        let Some(by_default) = by.by_default else { continue };
+        let got = outcome(places, |[first, second]| kept(x, || by_default(x, first, second)));
+        let by_table = outcome(places, |[first, second]| (by.by_table)(x, &built_in(1), first, second));
+        let by_store = outcome(places, |[first, second]| (by.by_store)(&store, name, x, first, second));
+        assert_eq!((got.0, got.0), (by_table.0, by_store.0), "{} of {}, {places:?} places", by.name, shown(x));
+        assert!(got == by_table && got == by_store, "a buffer of {} of {}, {places:?} places", by.name, shown(x));
+    }
+}
+
+/// Whether factors, suffix table and left forest in the default order are others than in order 0: in answer, comparisons or content.
+pub fn moved_by_default(x: &[u8], places: [usize; 2]) -> [bool; 3] {
+    let [out, _] = places;
+    [
+        outcome([out], |[out]| factors(x, out)) != outcome([out], |[out]| factors_ranked(x, 0, &[], out)),
+        outcome([out], |[out]| suffix_table(x, out)) != outcome([out], |[out]| suffix_table_ranked(x, 0, &[], out)),
+        outcome(places, |[first, past]| left_forest(x, first, past))
+            != outcome(places, |[first, past]| left_forest_ranked(x, 0, &[], first, past)),
+    ]
+}
+
+/// The calls without an order, by built-in table 1 and by the definitions.
+pub fn check_default(x: &[u8], places: [usize; 2]) {
+    check_default_by_table(x, places);
+    let what = format!("{}, {places:?} places, in the default order", shown(x));
+    let (mut first, mut past) = (vec![0; places[0]], vec![0; places[1]]);
+    let got = factors(x, &mut first);
+    let want = default_answer(x, &places[..1], definitions::factors_accepted);
+    compare_all(&format!("factors of {what}"), got, &[&first], &want);
+    let got = suffix_table(x, &mut first);
+    let want = default_answer(x, &places[..1], definitions::suffix_table_accepted);
+    compare_all(&format!("suffix table of {what}"), got, &[&first], &want);
+    let got = left_forest(x, &mut first, &mut past);
+    let want = default_answer(x, &places, definitions::left_forest_accepted);
+    compare_all(&format!("left forest of {what}"), got, &[&first, &past], &want);
+}
 
 // Texts
 
@@ -322,6 +391,11 @@ pub fn ranked_inputs(numbers: &mut Numbers, x: &[u8]) -> [RankedInput; 3] {
     }
     let text = x.iter().map(|&rank| numbers.pick(&letters[usize::from(rank)])).collect();
     [rising, falling, RankedInput { text, order: 2, table }]
+}
+
+/// The text with each letter in either case.
+pub fn in_either_case(numbers: &mut Numbers, x: &[u8]) -> Vec<u8> {
+    x.iter().map(|letter| numbers.pick(&[letter.to_ascii_uppercase(), letter.to_ascii_lowercase()])).collect()
 }
 
 pub fn fibonacci(n: usize) -> Vec<u8> {
@@ -420,5 +494,7 @@ pub fn families(n: usize) -> Vec<(String, Vec<u8>)> {
     list.push(("random, 4 letters".to_string(), numbers.text(b"ACGT", n)));
     let bytes: Vec<u8> = (0..=255).collect();
     list.push(("random bytes".to_string(), numbers.text(&bytes, n)));
+    list.push(("random, 4 letters, either case".to_string(), numbers.text(b"ACGTacgt", n)));
+    list.push(("fibonacci, either case".to_string(), in_either_case(&mut numbers, &fibonacci(n))));
     list
 }

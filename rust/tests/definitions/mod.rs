@@ -342,11 +342,6 @@ pub fn array_answer<L: Ord>(x: &[L], order: u32, places: usize) -> Expected<u32>
     refusal(&[length(x.len()), order_number(order), outputs(x.len(), &[places])]).unwrap_or_else(|| array_accepted(order, x))
 }
 
-/// The answer of a call in the default order, by what it is accepted with.
-pub fn rising_answer<C>(x: &[u8], places: &[usize], accepted: fn(u32, &[u8]) -> Expected<u32, C>) -> Expected<u32, C> {
-    refusal(&[length(x.len()), outputs(x.len(), places)]).unwrap_or_else(|| accepted(0, x))
-}
-
 pub fn runs_answer(x: &[u8], work: usize, list: usize) -> Expected<u32> {
     refusal(&[length(x.len()), run_buffers(x.len(), work, list)]).unwrap_or_else(|| runs_accepted(x))
 }
@@ -354,6 +349,30 @@ pub fn runs_answer(x: &[u8], work: usize, list: usize) -> Expected<u32> {
 /// The row of ranks of a text.
 pub fn row(table: &[u8], x: &[u8]) -> Vec<u8> {
     x.iter().map(|&letter| table[usize::from(letter)]).collect()
+}
+
+/// The built-in tables (document 02, E9): 0 ranks each byte by its number; 1 ranks a to z as A to Z, and every other byte by its number.
+pub const fn built_in(number: usize) -> [u8; 256] {
+    let mut table = [0; 256];
+    let mut letter = 0;
+    while letter < 256 {
+        table[letter] = match letter as u8 {
+            small @ b'a'..=b'z' if number == 1 => small - b'a' + b'A',
+            other => other,
+        };
+        letter += 1;
+    }
+    table
+}
+
+/// The row of ranks in the default order (document 02, E12).
+pub fn default_row(x: &[u8]) -> Vec<u8> {
+    row(&built_in(1), x)
+}
+
+/// The answer of a call without an order, by what it is accepted with: that of order 0 for the row of ranks in the default order.
+pub fn default_answer<C>(x: &[u8], places: &[usize], accepted: fn(u32, &[u8]) -> Expected<u32, C>) -> Expected<u32, C> {
+    refusal(&[length(x.len()), outputs(x.len(), places)]).unwrap_or_else(|| accepted(0, &default_row(x)))
 }
 
 /// The answer of a ranked call, by what it is accepted with: in order 2 that of order 0 for the row of ranks.

@@ -1,6 +1,8 @@
 //! Other methods for long inputs, by suffix arrays, longest common prefixes and ordered sets. None is the library's.
 #![allow(dead_code)]
 
+use crate::definitions::default_row;
+use std::borrow::Cow;
 use std::collections::BTreeSet;
 
 /// The ranks of the suffixes of a text, by prefix doubling. `letters` are already numbered in the order wanted.
@@ -265,8 +267,8 @@ pub fn runs_by_extensions(x: &[u8]) -> Vec<u32> {
     found.iter().flat_map(|&(start, last, p)| [start as u32, last as u32, p as u32]).collect()
 }
 
-/// What the calls write for a text; for an empty one nothing.
-#[derive(Default)]
+/// What the calls write for a text, those of one order in order 0; for an empty text nothing.
+#[derive(Clone, Default)]
 pub struct Lists {
     pub arrays: [Vec<u32>; 2],
     pub factors: Vec<u32>,
@@ -285,6 +287,16 @@ impl Lists {
         let (suffix_table, first, past) = suffix_table_and_left_forest(x);
         let arrays = [array(0, x), array(1, x)];
         Lists { factors: factors(x), comparisons: comparisons(x, &arrays[0]), arrays, suffix_table, first, past, runs: runs(x) }
+    }
+
+    /// What the calls without an order write for the text that these are of: the lists of its row of ranks. They are the same where the
+    /// letters of both stand in one order.
+    pub fn in_default_order(&self, x: &[u8]) -> Cow<'_, Lists> {
+        let row = default_row(x);
+        if x.is_empty() || in_order(0, &row) == in_order(0, x) {
+            return Cow::Borrowed(self);
+        }
+        Cow::Owned(Lists::of(&row, |_| vec![]))
     }
 
     /// What the calls of `common::RANKED_CALLS` write.

@@ -342,6 +342,42 @@ static void factors_and_comparisons(void) {
     }
 }
 
+/* The calls without an order, in which a to z rank as A to Z, and order 0 of the ranked form, by hand. aB is AB, one factor; by number B comes
+ * before a. abAa is ABAA: its first scan stops at the last letter, after 3 comparisons, and the second makes one more; by number the first
+ * stops at the A, after 2. The array goes with the factors. */
+static void in_default_order(void) {
+    static const struct example {
+        const char *content;
+        int rising;
+        uint32_t n, factors, comparisons, starts[4], table[4], left_first[4], left_past[4], array[4];
+    } examples[] = {
+        {"aB", 0, 2, 1, 1, {0}, {1, 2}, {0, 0}, {0, 2}, {2, 1}},
+        {"aB", 1, 2, 2, 1, {0, 1}, {1, 1}, {0, 1}, {0, 1}, {1, 1}},
+        {"abAa", 0, 4, 3, 4, {0, 2, 3}, {1, 2, 1, 1}, {0, 0, 2, 3}, {0, 2, 2, 3}, {2, 1, 1, 1}},
+        {"abAa", 1, 4, 2, 3, {0, 2}, {1, 2, 1, 2}, {0, 0, 2, 2}, {0, 2, 2, 4}, {2, 1, 2, 1}}};
+    for (size_t e = 0; e < sizeof examples / sizeof examples[0]; e++) {
+        const struct example *x = &examples[e];
+        size_t n = x->n;
+        start_text(x->content);
+        listed(x->rising ? lyndon_factorization_ranked(text, n, LYNDON_RISING, NULL, 0, first, PLACES)
+                         : lyndon_factorization(text, n, first, PLACES), x->factors, x->comparisons);
+        holds(first, x->starts, x->factors);
+        start_text(x->content);
+        answered(x->rising ? lyndon_suffix_table_ranked(text, n, LYNDON_RISING, NULL, 0, first, PLACES)
+                           : lyndon_suffix_table(text, n, first, PLACES), 0, x->n);
+        holds(first, x->table, n);
+        start_text(x->content);
+        answered(x->rising ? lyndon_left_forest_ranked(text, n, LYNDON_RISING, NULL, 0, first, PLACES, second, PLACES)
+                           : lyndon_left_forest(text, n, first, PLACES, second, PLACES), 0, x->n);
+        holds(first, x->left_first, n);
+        holds(second, x->left_past, n);
+        start_text(x->content);
+        answered(x->rising ? lyndon_array_u8(text, n, LYNDON_RISING, first, PLACES)
+                           : lyndon_store_array(lyndon_store_new(), 1, 1, 1, text, n, first, PLACES), 0, x->n);
+        holds(first, x->array, n);
+    }
+}
+
 /* K8, K9, K10 and K11 of the specification. */
 static void forests_and_texts(void) {
     static const uint32_t aabb[] = {'a', 'a', 'b', 'b'}, left_first[] = {0, 0, 1, 0}, left_past[] = {0, 3, 3, 4};
@@ -386,6 +422,7 @@ int main(void) {
     of_a_store();
     inside_a_store();
     factors_and_comparisons();
+    in_default_order();
     forests_and_texts();
     of_a_record();
     printf("%u calls\n", calls);

@@ -1,11 +1,13 @@
 -- Two texts, over whatever letters, whose letters compare alike at every two positions have the same Lyndon array.
 -- Assumes nothing.
 use mathlib.Core.Path.{_≡_, sym, _∙_}
-use mathlib.Core.List.{List, []}
+use mathlib.Core.List.{List}
 use Prim.Native.Nat.{ℕ, _+_, _<_, _≤_}
 use native.Mathlib.Omega.{arith}
 use lib.ListN.{length, getD}
 use Rattle.words.specs.Letters.{Letters, Smaller}
+use Rattle.words.specs.Word.{span}
+use Rattle.words.specs.Lyndon.{Lyndon}
 use Rattle.words.specs.LyndonArray.{LongestFrom, IsLyndonArray}
 use Rattle.words.specs.Laws.Position.{SpanLyndon}
 use Rattle.words.specs.Laws.SpanLyndon.{letters, lyndon-span, span-lyndon}
@@ -40,23 +42,23 @@ pub record OrderedAlike {ℓ κ ℓ′ κ′} {A : Type ℓ} {B : Type ℓ′} (
   pub there : Carries O P (letters z x) (letters w y) (length x)
   pub back : Carries P O (letters w y) (letters z x) (length x)
 
--- Texts whose letters compare alike have the same array.
-pub alike-array {ℓ κ ℓ′ κ′} : {A : Type ℓ} {B : Type ℓ′} {O : Letters {ℓ, κ} A} {P : Letters {ℓ′, κ′} B} {z : A} {w : B} {x : List A} {y : List B}
-    → OrderedAlike O P z w x y → (a : List ℕ) → IsLyndonArray O x a → IsLyndonArray P y a
-alike-array {O = O} {P = P} {z = z} {w = w} {x = x} {y = y} c a h =
-    record { size = h .size ∙ sym (c .size); entry = λ i l. carried i (h .entry i (omega (arith, c .size))) }
-  where
-    carried : (i : ℕ) → LongestFrom O x i (getD a i 0) → LongestFrom P y i (getD a i 0)
-    carried i g =
-        let e : ℕ = i + getD a i 0 in
-        record {
-          fits = omega (arith, c .size, g .fits);
-          lyndon =
-              span-lyndon P w y i e (omega (arith, c .size, g .fits))
-              (lyndon-carries (c .there) i e (g .fits) (lyndon-span O z x i e (g .fits) (g .lyndon)));
-          longest =
-              λ m p q v.
-              g .longest m p (omega (arith, c .size))
-              (span-lyndon O z x i (i + m) (omega (arith, c .size))
-              (lyndon-carries (c .back) i (i + m) (omega (arith, c .size)) (lyndon-span P w y i (i + m) q v)));
-        }
+module _ {ℓ κ ℓ′ κ′} {A : Type ℓ} {B : Type ℓ′} {O : Letters {ℓ, κ} A} {P : Letters {ℓ′, κ′} B} {z : A} {w : B} {x : List A} {y : List B}
+    (alike : OrderedAlike O P z w x y) where
+  -- The same spans of both are Lyndon words.
+  pub lyndon-there : (a b : ℕ) → b ≤ length x → Lyndon O (span a b x) → Lyndon P (span a b y)
+  lyndon-there a b l h = span-lyndon P w y a b (omega (arith, alike .size)) (lyndon-carries (alike .there) a b l (lyndon-span O z x a b l h))
+
+  pub lyndon-back : (a b : ℕ) → b ≤ length x → Lyndon P (span a b y) → Lyndon O (span a b x)
+  lyndon-back a b l h = span-lyndon O z x a b l (lyndon-carries (alike .back) a b l (lyndon-span P w y a b (omega (arith, alike .size)) h))
+
+  -- So both have the same array.
+  pub alike-array : (a : List ℕ) → IsLyndonArray O x a → IsLyndonArray P y a
+  alike-array a h = record { size = h .size ∙ sym (alike .size); entry = λ i l. carried i (h .entry i (omega (arith, alike .size))) }
+    where
+      carried : (i : ℕ) → LongestFrom O x i (getD a i 0) → LongestFrom P y i (getD a i 0)
+      carried i g =
+          record {
+            fits = omega (arith, alike .size, g .fits);
+            lyndon = lyndon-there i (i + getD a i 0) (g .fits) (g .lyndon);
+            longest = λ m p q v. g .longest m p (omega (arith, alike .size)) (lyndon-back i (i + m) (omega (arith, alike .size)) v);
+          }
