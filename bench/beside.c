@@ -15,8 +15,9 @@ PADDING(PAD);
 #define LARGEST 1048576
 #define TURNS 11
 
-/* The older library has the calls of this one, but perhaps not those with ranks. Its answers may lack the comparisons; they are declared as
- * this library's all the same, which does no harm where both come back in registers, and nothing looks at them. */
+/* The older library has the calls of this one, but perhaps not those with ranks or on the infinite order. Its answers may lack the
+ * comparisons; they are declared as this library's all the same, which does no harm where both come back in registers, and nothing looks at
+ * them. */
 #define OLD(name) extern __typeof__(lyndon_##name) old_lyndon_##name __attribute__((weak))
 OLD(array_u8);
 OLD(array_u32);
@@ -32,6 +33,8 @@ OLD(runs_ranked);
 OLD(factorization_ranked);
 OLD(suffix_table_ranked);
 OLD(left_forest_ranked);
+OLD(compare_infinite);
+OLD(prefix_permutation);
 
 static uint8_t text[LARGEST], ranks[256];
 static uint32_t numbers[LARGEST];
@@ -64,6 +67,9 @@ SAME(runs_ranked, runs_ranked, text, n, ranks, 256, b->first, 2 * n, b->second, 
 SAME(factorization_ranked, factorization_ranked, text, n, LYNDON_RANKED, ranks, 256, b->first, n)
 SAME(suffix_table_ranked, suffix_table_ranked, text, n, LYNDON_RANKED, ranks, 256, b->first, n)
 SAME(left_forest_ranked, left_forest_ranked, text, n, LYNDON_RANKED, ranks, 256, b->first, n, b->second, n)
+SAME(prefix_permutation, prefix_permutation, text, n, b->first, n - 1)
+CALLS(compare_infinite, b->first[0] = lyndon_compare_infinite(text, n, text, n).value,
+    b->first[0] = old_lyndon_compare_infinite(text, n, text, n).value)
 
 /* The ranked forms in orders 0 and 1, beside the older ones where there are such, else beside the older calls without a table. */
 #define IN_ORDER(id, name, order, plain, ...) \
@@ -93,7 +99,7 @@ static int orders_differ(size_t n) {
     return lower && other;
 }
 
-/* The inputs: texts of the families, as letters and as numbers; their Lyndon arrays; FASTA records. */
+/* The inputs: texts of the families, as letters and as numbers; their Lyndon arrays; their least rotations; FASTA records. */
 static void texts(int f, size_t n) {
     family_fill(f, text, n);
     for (size_t i = 0; i < n; i++) numbers[i] = text[i];
@@ -102,6 +108,7 @@ static void arrays(int f, size_t n) {
     family_fill(f, text, n);
     lyndon_array_u8(text, n, LYNDON_RISING, numbers, n);
 }
+static void words(int f, size_t n) { word_fill(f, text, n); }
 static void records(int r, size_t n) { record_fill(r, text, n); }
 
 struct call {
@@ -169,6 +176,8 @@ int main(int argc, char **argv) {
         {"factorization by rank", now_factorization_ranked, before_factorization_ranked, old_lyndon_factorization_ranked != 0, texts, 0},
         {"suffix table by rank", now_suffix_table_ranked, before_suffix_table_ranked, old_lyndon_suffix_table_ranked != 0, texts, 0},
         {"left forest by rank", now_left_forest_ranked, before_left_forest_ranked, old_lyndon_left_forest_ranked != 0, texts, 0},
+        {"compare infinite, a text with itself", now_compare_infinite, before_compare_infinite, old_lyndon_compare_infinite != 0, texts, 0},
+        {"prefix permutation", now_prefix_permutation, before_prefix_permutation, old_lyndon_prefix_permutation != 0, words, 0},
     };
     const size_t sizes[] = {65536, 262144, 1048576}, short_sizes[] = {1, 16, 32, 256}, record_sizes[] = {256, 2048};
     for (int a = 0; a < 256; a++) ranks[a] = (uint8_t)(a ^ 3);

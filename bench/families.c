@@ -1,4 +1,4 @@
-/* Texts and FASTA records that the benchmarks run on. */
+/* Texts, Lyndon words, pairs of texts and FASTA records that the benchmarks run on. */
 #include "families.h"
 #include <string.h>
 
@@ -124,6 +124,105 @@ int family_natural(int f) { return families[f].natural; }
 void family_fill(int f, uint8_t *text, size_t n) {
     state = 0x9e3779b97f4a7c15ull;
     families[f].fill(text, n);
+}
+
+static void turn_round(uint8_t *t, size_t n) {
+    for (size_t i = 0; i < n / 2; i++) {
+        uint8_t a = t[i];
+        t[i] = t[n - 1 - i];
+        t[n - 1 - i] = a;
+    }
+}
+
+/* The first k letters of the rotations from i and from j agree; the next one tells which of the two is not the least. */
+static void rotate_least(uint8_t *t, size_t n) {
+    size_t i = 0, j = 1, k = 0;
+    while (i < n && j < n && k < n) {
+        uint8_t a = t[(i + k) % n], b = t[(j + k) % n];
+        if (a == b) {
+            k++;
+            continue;
+        }
+        if (b < a) i += k + 1;
+        else j += k + 1;
+        if (i == j) j++;
+        k = 0;
+    }
+    size_t start = i < j ? i : j;
+    turn_round(t, start);
+    turn_round(t + start, n - start);
+    turn_round(t, n);
+}
+
+static void a_bn(uint8_t *t, size_t n) { memset(t, 'b', n); t[0] = 'a'; }
+static void ab_k_c(uint8_t *t, size_t n) { ab_k(t, n); t[n - 1] = 'c'; }
+static void am_ab_k(uint8_t *t, size_t n) { memset(t, 'a', n / 2); ab_k(t + n / 2, n - n / 2); t[n - 1] = 'c'; }
+static void a_fibonacci_c(uint8_t *t, size_t n) { t[0] = 'a'; fibonacci(t + 1, n - 1); t[n - 1] = 'c'; }
+static void am_b_blocks(uint8_t *t, size_t n) {
+    /* a^m b (a^(m-1) b)^k c, m m at most n */
+    size_t m = 1;
+    while ((m + 1) * (m + 1) <= n) m++;
+    memset(t, 'a', n);
+    for (size_t i = m; i < n; i += m) t[i] = 'b';
+    t[n - 1] = 'c';
+}
+
+static const struct { const char *name; void (*fill)(uint8_t *, size_t); } words[] = {
+    {"a b^(n-1)", a_bn},
+    {"(ab)^k c", ab_k_c},
+    {"a^m (ab)^k c", am_ab_k},
+    {"a^m b (a^(m-1) b)^k c", am_b_blocks},
+    {"a, Fibonacci, c", a_fibonacci_c},
+};
+
+int word_count(void) { return family_count() + (int)(sizeof words / sizeof words[0]); }
+const char *word_name(int w) { return w < family_count() ? family_name(w) : words[w - family_count()].name; }
+void word_fill(int w, uint8_t *text, size_t n) {
+    if (w >= family_count()) {
+        words[w - family_count()].fill(text, n);
+        return;
+    }
+    family_fill(w, text, n);
+    rotate_least(text, n);
+}
+
+static size_t equal_texts(uint8_t *u, uint8_t *v, size_t n) { random_dna(u, n); memcpy(v, u, n); return n; }
+static size_t equal_letters_less(uint8_t *u, uint8_t *v, size_t n) { equal_letters(u, n); equal_letters(v, n - 1); return n - 1; }
+static size_t equal_letters_one(uint8_t *u, uint8_t *v, size_t n) { equal_letters(u, n); v[0] = u[0]; return 1; }
+static size_t ab_less(uint8_t *u, uint8_t *v, size_t n) { ab_k(u, n); ab_k(v, n - 2); return n - 2; }
+static size_t powers_of_one(uint8_t *u, uint8_t *v, size_t n) {
+    size_t p = n / 4;
+    random_dna(u, p);
+    for (size_t i = p; i < n; i++) u[i] = u[i - p];
+    memcpy(v, u, 3 * p);
+    return 3 * p;
+}
+static size_t latest_difference(uint8_t *u, uint8_t *v, size_t n) {
+    /* endless copies of texts of n and n - 1 letters that differ agree on 2n - 3 letters at most, and these do */
+    an_b(u, n - 1);
+    u[n - 1] = 'a';
+    memcpy(v, u, n - 1);
+    return n - 1;
+}
+static size_t last_letter(uint8_t *u, uint8_t *v, size_t n) { equal_texts(u, v, n); v[n - 1] ^= 1; return n; }
+static size_t first_letter(uint8_t *u, uint8_t *v, size_t n) { equal_texts(u, v, n); v[0] ^= 1; return n; }
+
+static const struct { const char *name; size_t (*fill)(uint8_t *, uint8_t *, size_t); } pairs[] = {
+    {"random DNA, equal texts", equal_texts},
+    {"a^n and a^(n-1)", equal_letters_less},
+    {"a^n and a", equal_letters_one},
+    {"(ab)^k and (ab)^(k-1)", ab_less},
+    {"w^4 and w^3", powers_of_one},
+    {"a^(n-2) b a and a^(n-2) b", latest_difference},
+    {"random DNA, last letter", last_letter},
+    {"random DNA, first letter", first_letter},
+};
+
+int pair_count(void) { return (int)(sizeof pairs / sizeof pairs[0]); }
+const char *pair_name(int p) { return pairs[p].name; }
+size_t pair_fill(int p, uint8_t *u, uint8_t *v, size_t n) {
+    state = 0x9e3779b97f4a7c15ull;
+    return pairs[p].fill(u, v, n);
 }
 
 static const struct { const char *name, *letters; size_t width; } records[] = {

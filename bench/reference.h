@@ -22,6 +22,10 @@ size_t reference_runs_ranked(const uint8_t *ranks, const uint8_t *x, size_t n, u
 size_t reference_factorization_ranked(const uint8_t *ranks, const uint8_t *x, size_t n, uint32_t *out, uint32_t *comparisons);
 void reference_suffix_table_ranked(const uint8_t *ranks, const uint8_t *x, size_t n, uint32_t *out);
 void reference_left_forest_ranked(const uint8_t *ranks, const uint8_t *x, size_t n, uint32_t *first, uint32_t *past);
+/* 0 where u is below v in infinite order, 1 where they are the same, 2 where it is above. */
+size_t reference_compare_infinite(const uint8_t *u, size_t m, const uint8_t *v, size_t n);
+/* 0, or the number of the refusal; table has n places, for the suffix table. */
+uint32_t reference_prefix_permutation(const uint8_t *x, size_t n, uint32_t *table, uint32_t *out);
 /* 0, or the number of the refusal and its position. */
 uint32_t reference_right_forest(const uint32_t *array, size_t n, uint32_t *first, uint32_t *past, size_t *at);
 uint32_t reference_reconstruct(const uint32_t *array, size_t n, uint32_t *text, size_t *at);

@@ -19,8 +19,8 @@ extern "C" {
 
 /* number 0: accepted, value is the count; comparisons is 0 but for lyndon_factorization, its ranked form and lyndon_store_factorization.
  * Else the refusal's number, value is the position (0 where none is named), and comparisons is 0:
- *   1  the text or array is empty
- *   2  it is longer than 1,048,576
+ *   1  the text or array is empty; of two texts, either one
+ *   2  it is longer than 1,048,576; of two texts, either one
  *   3  the order number is not one that the call takes: 0 and 1, in the ranked calls 0 to 2
  *   4  an output buffer is shorter than needed
  *   5  the work buffer is shorter than 2 n
@@ -36,10 +36,11 @@ extern "C" {
  *  14  there is a 4,097th letter; the position is that letter's in the input
  *  15  the input is longer than 16,384 bytes; the position is 16384
  *  16  a rank table that is to be used, or written into a store, does not have 256 entries
+ *  17  the text is not a Lyndon word in rising order
  *  21  there is no such group, or it has no table of that number
  *  22  a group's own table is used, or read, before it was written
- * Checks are made in the order 21, 22, 1, 2, 3, 16, 4, 5, then 6 and 7 in one pass, then 8; for FASTA 4, 15, 9, 10, then 11, 12 and 14 in
- * one pass, 13.
+ * Checks are made in the order 21, 22, 1, 2, 3, 16, 4, then 17, or 5, or 6 and 7 in one pass and after them 8; for FASTA 4, 15, 9, 10, then
+ * 11, 12 and 14 in one pass, 13.
  */
 typedef struct {
     uint32_t number;
@@ -53,7 +54,8 @@ typedef struct {
  * lyndon_factorization, lyndon_suffix_table and lyndon_left_forest take no order and use the default one: a to z rank as A to Z, so that 'a'
  * and 'A' are one letter, and every other byte by its number. It is what the ranked calls do in order 2 with built-in table 1 of a store
  * (below). On a text without a to z, or without the bytes 65 to 96, it gives what order 0 gives. For order 0, call the ranked form:
- * lyndon_factorization_ranked(text, n, LYNDON_RISING, NULL, 0, out, out_len), for example.
+ * lyndon_factorization_ranked(text, n, LYNDON_RISING, NULL, 0, out, out_len), for example. lyndon_compare_infinite and
+ * lyndon_prefix_permutation take no order either: they compare letters by number, and words in infinite order (below).
  *
  * A factorization and an array go together only where both were made in one order. The array in the default order is
  * lyndon_store_array(lyndon_store_new(), 1, 1, 1, text, n, out, out_len). Of "aB" it is 2 1, and in the default order "aB" is one factor; its
@@ -118,6 +120,23 @@ lyndon_answer lyndon_left_forest_ranked(const uint8_t *text, size_t n, uint32_t 
  * array rising by rank and then the one falling by rank. Refusals 1, 2, 16, 4 (list), 5. */
 lyndon_answer lyndon_runs_ranked(const uint8_t *text, size_t n, const uint8_t *table, size_t table_len, uint32_t *work, size_t work_len,
     uint32_t *list, size_t list_len);
+
+/* Infinite order: u is below v where endless copies of u, u u u .., are smaller than endless copies of v by the first letter that differs;
+ * where these never differ, the longer text is below. Letters are compared by number, not in the default order: 'B' is below 'a'. A text and
+ * a longer one that begins with it may stand in either order: of "ab", "aba", "abac", "abab", in infinite order "aba" comes first, since
+ * abaaba.. differs from abab.. at the fourth letter, then "abab", since it is longer than "ab", then "ab", then "abac". */
+
+/* Compares two texts of bytes in infinite order. The count says where u stands: 0 below v, 1 the same, which is so exactly where the two
+ * texts are equal, 2 above v. No buffer is needed; |u| + |v| letters of each are compared at most. The texts may overlap, or be one.
+ * Refusals 1 (either text), then 2 (either text): an empty one beside one that is too long is refused with 1. */
+lyndon_answer lyndon_compare_infinite(const uint8_t *u, size_t u_len, const uint8_t *v, size_t v_len);
+
+/* The prefix standard permutation of a Lyndon word of bytes: out holds the last positions of its proper non-empty prefixes, 0 to n - 2, in
+ * infinite order, the lowest prefix first. The word is a Lyndon word in rising order, by number, not in the default order: "Ba" is one, "aB"
+ * is not. Of "aab" the prefix aa is below a, which is shorter, and out holds 1 0; of "abac" a is below aba, that is below ab, and out holds
+ * 0 2 1. Needs n - 1 places; the count is n - 1. For one letter out may be empty, and the pointer null. For n = 0, which is refused with 1,
+ * n - 1 would wrap: give the length that the buffer has. Takes time in proportion to n. Refusals 1, 2, 4, 17. */
+lyndon_answer lyndon_prefix_permutation(const uint8_t *word, size_t n, uint32_t *out, size_t out_len);
 
 /* A store of rank tables for two groups of users, 1 and 2. A group has three tables of its own, 0 to 2, which its calls alone replace; in a
  * new store none is written. Two built-in tables are for both groups, and nobody changes them: 0 ranks each byte by its number; 1 ranks

@@ -37,6 +37,7 @@ impl fmt::Display for Error {
             14 => write!(f, "byte {at} is a letter past the {MAX_LETTERS} that are read"),
             15 => write!(f, "the input is longer than {MAX_INPUT} bytes"),
             16 => write!(f, "the rank table does not have 256 entries"),
+            17 => write!(f, "the text is not a Lyndon word in rising order"),
             21 => write!(f, "there is no such group, or it has no table of that number"),
             22 => write!(f, "the group's table is not written yet"),
             _ => write!(f, "refused at position {at}"),

@@ -77,6 +77,8 @@ pub mod c {
             list: *mut u32,
             list_len: usize,
         ) -> Answer;
+        pub fn lyndon_compare_infinite(u: *const u8, u_len: usize, v: *const u8, v_len: usize) -> Answer;
+        pub fn lyndon_prefix_permutation(word: *const u8, n: usize, out: *mut u32, out_len: usize) -> Answer;
         pub fn lyndon_read_fasta(input: *const u8, len: usize, letters: *mut u8, letters_len: usize) -> Answer;
         pub fn lyndon_store_new() -> Store;
         pub fn lyndon_store_write(store: Store, group: u32, number: u32, table: *const u8, table_len: usize) -> StoreWritten;
@@ -169,6 +171,14 @@ pub fn runs_ranked(text: &[u8], table: &[u8], work: &mut [u32], list: &mut [u32]
             list.len(),
         )
     }
+}
+
+pub fn compare_infinite(u: &[u8], v: &[u8]) -> Answer {
+    unsafe { c::lyndon_compare_infinite(u.as_ptr(), u.len(), v.as_ptr(), v.len()) }
+}
+
+pub fn prefix_permutation(word: &[u8], out: &mut [u32]) -> Answer {
+    unsafe { c::lyndon_prefix_permutation(word.as_ptr(), word.len(), out.as_mut_ptr(), out.len()) }
 }
 
 pub fn read_fasta(input: &[u8], letters: &mut [u8]) -> Answer {

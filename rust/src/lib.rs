@@ -13,6 +13,9 @@
 //! `factorization_ranked(text, Order::Rising)`. A factorization and a Lyndon array go together only where both are in one order; the ranks of the
 //! default order are [`Ranks::default`]. [`runs`] depend on no order, only on which bytes are equal: there `a` and `A` are two letters.
 //!
+//! [`compare_infinite`] and [`prefix_permutation`] are about the infinite order, in which endless copies of two texts are compared. They take no
+//! order either, and always compare letters by number, never in the default order.
+//!
 //! Two groups of users can keep their ranks in one [`TableStore`], and call by the tables that stand there: each group by its own and by two
 //! built-in ones, never by the other group's.
 //!
@@ -42,6 +45,8 @@ mod store;
 pub use error::Error;
 pub use ranks::{GroupError, LetterOrder, Ranks};
 pub use store::{Group, Group1, Group2, GroupTables, Table, TableStore};
+
+use std::cmp::Ordering;
 
 /// The largest number of letters of a text, or of entries of an array.
 pub const MAX_LENGTH: usize = 1_048_576;
@@ -617,6 +622,73 @@ pub fn runs_ranked(text: &[u8], ranks: &Ranks) -> Result<Vec<Run>, Error> {
 /// Those of [`runs_into`].
 pub fn runs_ranked_into(text: &[u8], ranks: &Ranks, work: &mut [u32], list: &mut [u32]) -> Result<usize, Error> {
     counted(ffi::runs_ranked(text, ranks.as_bytes(), work, list))
+}
+
+/// Compares two texts in the infinite order, letters by number.
+///
+/// Endless copies of `u` are compared with endless copies of `v` by the first letter that differs. Where they never differ, the longer
+/// text is the smaller one. `Equal` is the answer exactly for equal texts.
+///
+/// # Errors
+///
+/// Refuses where either text is empty (refusal 1), then where either has more than [`MAX_LENGTH`] letters (2).
+///
+/// ```
+/// use lyndon::compare_infinite;
+/// use std::cmp::Ordering;
+/// // `abaaba..` before `ababab..`, though `ab` is a prefix of `aba`.
+/// assert_eq!(compare_infinite(b"aba", b"ab")?, Ordering::Less);
+/// // `ababab..` both times: the longer text first.
+/// assert_eq!(compare_infinite(b"ab", b"abab")?, Ordering::Greater);
+/// assert_eq!(compare_infinite(b"ab", b"ab")?, Ordering::Equal);
+/// // By number, capitals come before small letters.
+/// assert_eq!(compare_infinite(b"B", b"a")?, Ordering::Less);
+/// assert_eq!(compare_infinite(b"ab", b"").unwrap_err().number, 1);
+/// # Ok::<(), lyndon::Error>(())
+/// ```
+pub fn compare_infinite(u: &[u8], v: &[u8]) -> Result<Ordering, Error> {
+    counted(ffi::compare_infinite(u, v)).map(|count| count.cmp(&1))
+}
+
+/// The prefix standard permutation of a word that is a Lyndon word where letters are compared by number: the last positions of its proper
+/// non-empty prefixes, 0 to n − 2, in the infinite order ([`compare_infinite`]), the smallest prefix first. For one letter it is empty.
+///
+/// # Errors
+///
+/// Refuses an empty text (refusal 1), one of more than [`MAX_LENGTH`] letters (2), and one that is not a Lyndon word by number (17).
+///
+/// ```
+/// use lyndon::prefix_permutation;
+/// assert_eq!(prefix_permutation(b"abacabade")?, [0, 2, 1, 4, 6, 5, 3, 7]);
+/// // `aa` comes before `a`: endless copies are the same, and it is longer.
+/// assert_eq!(prefix_permutation(b"aab")?, [1, 0]);
+/// assert_eq!(prefix_permutation(b"a")?, []);
+/// // By number `B` comes before `a`, so only one of these is a Lyndon word.
+/// assert_eq!(prefix_permutation(b"Ba")?, [0]);
+/// assert_eq!(prefix_permutation(b"aB").unwrap_err().number, 17);
+/// # Ok::<(), lyndon::Error>(())
+/// ```
+pub fn prefix_permutation(word: &[u8]) -> Result<Vec<u32>, Error> {
+    filled(word.len().saturating_sub(1), |out| prefix_permutation_into(word, out))
+}
+
+/// [`prefix_permutation`] into a buffer of at least `n - 1` places, which for one letter may be empty. The count is `n - 1`.
+///
+/// # Errors
+///
+/// Refuses an empty text (refusal 1) and one of more than [`MAX_LENGTH`] letters (2); also where `out` is too short (4), and then a text that is
+/// not a Lyndon word by number (17).
+///
+/// ```
+/// let mut out = [9; 4];
+/// assert_eq!(lyndon::prefix_permutation_into(b"aab", &mut out)?, 2);
+/// assert_eq!(out, [1, 0, 9, 9]);
+/// assert_eq!(lyndon::prefix_permutation_into(b"aab", &mut out[..1]).unwrap_err().number, 4);
+/// assert_eq!(lyndon::prefix_permutation_into(b"aba", &mut out).unwrap_err().number, 17);
+/// # Ok::<(), lyndon::Error>(())
+/// ```
+pub fn prefix_permutation_into(word: &[u8], out: &mut [u32]) -> Result<usize, Error> {
+    counted(ffi::prefix_permutation(word, out))
 }
 
 /// The letters of a FASTA input of one record, as capitals: a lower-case letter is the same base, masked.

@@ -206,6 +206,37 @@ fn letters_compared() {
     assert_eq!((count, moves), (110, 1));
 }
 
+/// Two texts in infinite order (document 02, E5).
+#[test]
+fn compared_texts() {
+    let mut count = 0;
+    for case in later("e5_compare") {
+        let (u, v) = (case.get("u").unwrap().bytes(), case.get("v").unwrap().bytes());
+        assert_eq!(common::compare_infinite(&u, &v), wanted(case.get("want").unwrap()), "case {count} of e5_compare");
+        count += 1;
+    }
+    assert_eq!(count, 62);
+}
+
+/// The prefixes of a Lyndon word (document 02, E5): in a buffer of the length given, else in a longer one and in one of exactly the places needed.
+#[test]
+fn prefixes() {
+    let mut count = 0;
+    for case in later("e5_prefixes") {
+        let (text, want) = (case.get("text").unwrap().bytes(), case.get("want").unwrap());
+        let written = numbers(want, "out");
+        let lengths = lent(&case, "places").map_or(vec![text.len() + 5, text.len().saturating_sub(1)], |places| vec![places]);
+        for places in lengths {
+            let mut out = vec![0; places];
+            let got = common::prefix_permutation(&text, &mut out);
+            let what = format!("case {count} of e5_prefixes, {places} places");
+            common::compare(&what, got, &[&out], wanted(want), &[written.as_deref()]);
+        }
+        count += 1;
+    }
+    assert_eq!(count, 137);
+}
+
 /// The reader's cases of document 02, with E4's limits: capitals (E2), 4,096 letters and 16,384 bytes.
 #[test]
 fn reader_of_longer_records() {

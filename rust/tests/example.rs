@@ -20,8 +20,9 @@ fn built(name: &str) -> PathBuf {
     program
 }
 
-fn run(program: &Path, text: &str) -> (String, Option<i32>) {
-    let output = Command::new(program).arg(text).output().unwrap();
+/// What an example prints for its arguments, one text or several with a space between them, and its exit status.
+fn run(program: &Path, texts: &str) -> (String, Option<i32>) {
+    let output = Command::new(program).args(texts.split(' ')).output().unwrap();
     (String::from_utf8(output.stdout).unwrap(), output.status.code())
 }
 
@@ -69,4 +70,17 @@ fn factors_in_the_default_order() {
         factors, rising order       |a|B|\n";
     assert_eq!(run(&program, "aB"), (want.to_string(), Some(0)));
     assert_eq!(run(&program, ""), ("refused 1\n".to_string(), Some(1)));
+}
+
+#[test]
+fn markers_in_infinite_order() {
+    let program = built("infinite_order");
+    for (texts, lines) in [("abacabade abac", 10), ("abab ab", 2)] {
+        assert_eq!(run(&program, texts), (shown("infinite_order", texts, lines), Some(0)));
+    }
+    assert_eq!(run(&program, "a B"), ("a is above B\n0 prefixes, by their last positions\n".to_string(), Some(0)));
+    assert_eq!(run(&program, "aB aB"), ("aB is the same as aB\naB is not a Lyndon word\n".to_string(), Some(0)));
+    for texts in ["a ", " a"] {
+        assert_eq!(run(&program, texts), ("refused 1\n".to_string(), Some(1)));
+    }
 }

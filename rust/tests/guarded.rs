@@ -292,6 +292,69 @@ fn check_array(entries: &[u32], side: Side) {
     }
 }
 
+/// Two texts in infinite order, both guarded, at either side.
+fn check_compared(u: &[u8], v: &[u8]) {
+    for (one, two) in [(Side::End, Side::End), (Side::End, Side::Start), (Side::Start, Side::End), (Side::Start, Side::Start)] {
+        let (mut first, mut second) = (Guarded::new(u, one), Guarded::new(v, two));
+        let got = common::compare_infinite(first.slice(), second.slice());
+        let want = definitions::comparison_answer(u, v, faster::infinite_compare);
+        common::compare_all(&format!("guarded, {one:?} and {two:?}, {u:?}, {v:?}"), got, &[], &want);
+    }
+}
+
+#[test]
+fn compared_texts() {
+    let mut numbers = Numbers::new(27);
+    for round in 0..2000 {
+        let (n, m) = (numbers.below(20), numbers.below(20));
+        let w = numbers.text(b"ab", 1 + round % 5);
+        check_compared(&common::power(&w, n), &common::power(&w, m));
+        check_compared(&numbers.text(b"ab", n), &numbers.text(b"aB", m));
+    }
+    for (n, m) in [(1, PAGE), (PAGE, PAGE - 1), (PAGE + 3, 3 * PAGE), (PAGE + 1, 2 * PAGE + 2)] {
+        check_compared(&common::fibonacci(n), &common::fibonacci(m));
+        check_compared(&common::power(b"abb", n), &common::power(b"abb", m));
+    }
+}
+
+/// The prefixes of a word, Lyndon or not, in a buffer of exactly the places needed and, where there is one, with one place less.
+fn check_prefixes(w: &[u8], side: Side) {
+    let n = w.len();
+    let mut word = Guarded::new(w, side);
+    for missing in 0..=usize::from(n > 1) {
+        let answer = match (n, missing, common::is_lyndon(w)) {
+            (0, ..) => Err(1),
+            (_, 0, true) => Ok(n - 1),
+            (_, 0, false) => Err(17),
+            _ => Err(4),
+        };
+        let written = answer.is_ok().then(|| faster::prefix_permutation(w));
+        let mut out = room(n.saturating_sub(1) - missing, side);
+        let got = common::prefix_permutation(word.slice(), out.slice());
+        let answer = answer.map_err(|number| Error { number, position: 0 });
+        common::compare(&format!("prefixes, guarded, {side:?}, {n} letters"), got, &[out.slice()], answer, &[written.as_deref()]);
+    }
+}
+
+#[test]
+fn prefixes_of_lyndon_words() {
+    let mut numbers = Numbers::new(28);
+    let short = (0..1500).map(|round| {
+        let n = numbers.below(20);
+        let x = numbers.text([b"ab".as_slice(), b"abcd", b"aAbB"][round % 3], n);
+        if round % 4 == 0 {
+            x
+        } else {
+            common::least_rotation(&x)
+        }
+    });
+    let long = [64, 1023, 1024, 1025, 4099].into_iter().flat_map(|n| common::lyndon_families(n).into_iter().map(|(_, w)| w));
+    for w in short.collect::<Vec<_>>().into_iter().chain(long) {
+        check_prefixes(&w, Side::End);
+        check_prefixes(&w, Side::Start);
+    }
+}
+
 /// A program that reads one element past an end is stopped: this test starts itself again to do so.
 #[test]
 fn the_guard_is_real() {

@@ -30,7 +30,7 @@ fn calls(compiler: &str, variable: &str, words: &[&str]) {
     assert!(status.success());
     let output = Command::new(&program).output().unwrap();
     assert_eq!(String::from_utf8_lossy(&output.stderr), "");
-    assert_eq!((output.status.code(), String::from_utf8_lossy(&output.stdout).as_ref()), (Some(0), "282 calls\n"));
+    assert_eq!((output.status.code(), String::from_utf8_lossy(&output.stdout).as_ref()), (Some(0), "304 calls\n"));
 }
 
 #[test]
@@ -55,7 +55,7 @@ fn every_function_is_called() {
         names
     };
     let exported = names(&exports, &["pub extern \"C\" fn "]);
-    assert_eq!(exported.len(), 22);
+    assert_eq!(exported.len(), 24);
     assert_eq!(names(&header, &["lyndon_answer ", "lyndon_store ", "lyndon_store_written "]), exported);
     for name in exported {
         assert!(calls.contains(&format!("{name}(")), "{name} is not called");

@@ -119,6 +119,45 @@ fn the_default_order() {
     assert_eq!(lyndon::runs_ranked(b"aA", &Ranks::default()).unwrap(), [Run { start: 0, last: 1, period: 1 }]);
 }
 
+/// Document 02, E5, and document 000: the definition's two rules, the prefix standard permutations that it prints, words that share one.
+#[test]
+fn infinite_order() {
+    use std::cmp::Ordering::{Equal, Greater, Less};
+    let compare = |u: &str, v: &str| lyndon::compare_infinite(u.as_bytes(), v.as_bytes()).unwrap();
+    // By the first letter that differs in endless copies: of aba and abaab the seventh, of abaababa and abaab the twelfth. By number B comes
+    // before a.
+    for (u, v) in [("a", "ab"), ("aab", "ab"), ("aba", "ab"), ("aba", "abaab"), ("abaababa", "abaab"), ("B", "a"), ("aB", "aa")] {
+        assert_eq!((compare(u, v), compare(v, u)), (Less, Greater), "{u}, {v}");
+    }
+    // Copies of one word: the longer text is below. Same only where the texts are equal.
+    for (u, v) in [("aa", "a"), ("abab", "ab"), ("ababab", "abab"), ("aaaaa", "aaa")] {
+        assert_eq!((compare(u, v), compare(v, u), compare(u, u)), (Less, Greater, Equal), "{u}, {v}");
+    }
+    let prefixes = |word: &str| lyndon::prefix_permutation(word.as_bytes()).unwrap();
+    assert_eq!(prefixes("abacabade"), [0, 2, 1, 4, 6, 5, 3, 7]);
+    assert_eq!(prefixes("ababbababbabac"), [0, 2, 3, 1, 5, 7, 8, 6, 10, 12, 11, 9, 4]);
+    assert_eq!(prefixes("aabaabbb"), [1, 0, 4, 3, 5, 2, 6]);
+    assert_eq!(prefixes("aabababb"), [1, 0, 3, 2, 5, 4, 6]);
+    for word in ["ababbb", "ababbc", "ababcb", "ababcc"] {
+        assert_eq!(prefixes(word), [0, 2, 3, 1, 4]);
+    }
+    for word in common::all_texts(b"bc", 4) {
+        assert_eq!(lyndon::prefix_permutation(&[b"a", &word[..]].concat()).unwrap(), [0, 1, 2, 3]);
+    }
+    assert_eq!(prefixes("a"), []);
+    assert_eq!(prefixes("Ba"), [0]);
+    for word in ["aB", "aa", "ba", "aba", "abab"] {
+        assert_eq!(refusal(lyndon::prefix_permutation(word.as_bytes())), (17, 0), "{word}");
+    }
+    // A short buffer is told before a word that is none.
+    assert_eq!(refusal(lyndon::prefix_permutation_into(b"aba", &mut [9])), (4, 0));
+    assert_eq!(refusal(lyndon::prefix_permutation_into(b"aba", &mut [9, 9])), (17, 0));
+    // So is an empty text before one that is too long, whichever comes first.
+    let long = vec![b'a'; LONGEST + 1];
+    assert_eq!(refusal(lyndon::compare_infinite(b"", &long)), (1, 0));
+    assert_eq!(refusal(lyndon::compare_infinite(&long, b"")), (1, 0));
+}
+
 #[test]
 fn k10_to_k12_reconstructed() {
     assert_eq!(lyndon::reconstruct(&[2, 1, 5, 2, 1, 2, 1, 3, 2, 1]).unwrap(), [8, 9, 3, 6, 7, 4, 5, 0, 1, 2]);
@@ -307,6 +346,9 @@ fn one_letter_more_is_refused() {
     assert_eq!(refusal(lyndon::right_forest(&ones)), (2, 0));
     assert_eq!(refusal(lyndon::reconstruct(&ones)), (2, 0));
     assert_eq!(refusal(lyndon::runs(&text)), (2, 0));
+    assert_eq!(refusal(lyndon::prefix_permutation(&text)), (2, 0));
+    assert_eq!(refusal(lyndon::compare_infinite(&text, b"a")), (2, 0));
+    assert_eq!(refusal(lyndon::compare_infinite(b"a", &text)), (2, 0));
     let ranks = Ranks::new([0; 256]);
     assert_eq!(refusal(lyndon::lyndon_array_ranked(&text, &ranks)), (2, 0));
     assert_eq!(refusal(lyndon::factorization_ranked(&text, Order::Rising)), (2, 0));
@@ -402,7 +444,7 @@ fn lower_case_is_masking() {
 #[test]
 fn every_refusal_has_a_sentence() {
     let sentence = |number: u32| Error { number, position: 7 }.to_string();
-    for number in (1..=16).chain([21, 22]) {
+    for number in (1..=17).chain([21, 22]) {
         assert!(sentence(number).ends_with(&format!("(refusal {number})")));
         assert!(!sentence(number).starts_with("refused at position"), "{}", sentence(number));
     }

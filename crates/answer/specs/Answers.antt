@@ -11,7 +11,8 @@ use Rattle.answer.specs.declared.Outcome.{Outcome}
 use Rattle.answer.specs.declared.Outcome.the-variants.{Accepted, Refused}
 use Rattle.answer.specs.declared.Reason.{Reason}
 use Rattle.answer.specs.declared.Reason.the-variants.{EmptyText, TextTooLong, UnknownOrder, ShortOutput, ShortWork, ZeroEntry, LongEntry, CrossingSpans}
-use Rattle.answer.specs.declared.Reason.the-variants.{NoHeader, BadName, UnfitByte, SecondRecord, NoLetters, TooManyLetters, FileTooLong, WrongTable, UnknownTable, UnwrittenTable}
+use Rattle.answer.specs.declared.Reason.the-variants.{NoHeader, BadName, UnfitByte, SecondRecord, NoLetters, TooManyLetters, FileTooLong}
+use Rattle.answer.specs.declared.Reason.the-variants.{WrongTable, NotLyndon, UnknownTable, UnwrittenTable}
 use Rattle.answer.specs.Reasons.{numberOf}
 
 -- Accepted, with its count and the letter comparisons that were counted (document 02, E7).
@@ -61,7 +62,7 @@ comparisons a = comparisonsIn (a .outcome)
 abbrev pub reasons : List Reason
 reasons =
     EmptyText ∷ TextTooLong ∷ UnknownOrder ∷ ShortOutput ∷ ShortWork ∷ ZeroEntry ∷ LongEntry ∷ CrossingSpans ∷ NoHeader ∷ BadName ∷ UnfitByte ∷ SecondRecord ∷
-    NoLetters ∷ TooManyLetters ∷ FileTooLong ∷ WrongTable ∷ UnknownTable ∷ UnwrittenTable ∷ []
+    NoLetters ∷ TooManyLetters ∷ FileTooLong ∷ WrongTable ∷ NotLyndon ∷ UnknownTable ∷ UnwrittenTable ∷ []
 
 -- The first reason of a list that has this number; where none has it, which is no answer's, the first of all.
 abbrev pub reasonIn : List Reason → ℕ → Reason
@@ -91,6 +92,7 @@ outcome-told (Refused NoLetters p) = refl
 outcome-told (Refused TooManyLetters p) = refl
 outcome-told (Refused FileTooLong p) = refl
 outcome-told (Refused WrongTable p) = refl
+outcome-told (Refused NotLyndon p) = refl
 outcome-told (Refused UnknownTable p) = refl
 outcome-told (Refused UnwrittenTable p) = refl
 

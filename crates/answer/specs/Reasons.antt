@@ -3,9 +3,10 @@
 use Prim.Native.Nat.{ℕ}
 use Rattle.answer.specs.declared.Reason.{Reason}
 use Rattle.answer.specs.declared.Reason.the-variants.{EmptyText, TextTooLong, UnknownOrder, ShortOutput, ShortWork, ZeroEntry, LongEntry, CrossingSpans}
-use Rattle.answer.specs.declared.Reason.the-variants.{NoHeader, BadName, UnfitByte, SecondRecord, NoLetters, TooManyLetters, FileTooLong, WrongTable, UnknownTable, UnwrittenTable}
+use Rattle.answer.specs.declared.Reason.the-variants.{NoHeader, BadName, UnfitByte, SecondRecord, NoLetters, TooManyLetters, FileTooLong}
+use Rattle.answer.specs.declared.Reason.the-variants.{WrongTable, NotLyndon, UnknownTable, UnwrittenTable}
 
--- The number of each reason: document 01, "Where each check stands", column "No."; those from 16 on are document 02's, 16 of E1, 21 and 22 of E9.
+-- The number of each reason: document 01, "Where each check stands", column "No."; those from 16 on are document 02's, 16 of E1, 17 of E5, 21 and 22 of E9.
 abbrev pub numberOf : Reason → ℕ
 numberOf EmptyText = 1
 numberOf TextTooLong = 2
@@ -23,5 +24,6 @@ numberOf NoLetters = 13
 numberOf TooManyLetters = 14
 numberOf FileTooLong = 15
 numberOf WrongTable = 16
+numberOf NotLyndon = 17
 numberOf UnknownTable = 21
 numberOf UnwrittenTable = 22

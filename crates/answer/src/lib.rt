@@ -42,6 +42,8 @@ pub enum Reason {
     FileTooLong,
     // 16: a rank table that is to be used, or to be written into a store, hasn't 256 entries.
     WrongTable,
+    // 17: the text of a call that asks for a Lyndon word is not one, in rising order.
+    NotLyndon,
     // 21: a store has no such group, or no table of that number.
     UnknownTable,
     // 22: a group's own table is used before it was written.
@@ -106,6 +108,7 @@ fn number_of(reason: Reason) -> u32
         Reason::TooManyLetters => 14,
         Reason::FileTooLong => 15,
         Reason::WrongTable => 16,
+        Reason::NotLyndon => 17,
         Reason::UnknownTable => 21,
         Reason::UnwrittenTable => 22,
     }

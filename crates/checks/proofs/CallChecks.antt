@@ -7,6 +7,7 @@ use Rattle.checks.specs.declared.Check.the-variants.{Passed}
 use Rattle.answer.specs.Limits.{maxLength, maxLetters, runListLength, workLength, rankedOrder}
 use Rattle.checks.specs.Checks.{Adds, lengthChecked, orderChecked, outputChecked, workChecked, inputChecked, textChecked, orderedTextChecked, forestChecked, runsChecked, readerChecked}
 use Rattle.checks.specs.Checks.{tableChecked, rankedChecked, rankedTextChecked, rankedForestChecked, rankedRunsChecked, usesTable}
+use Rattle.checks.specs.Checks.{emptyChecked, limitChecked, twoTextsChecked}
 use Rattle.checks.specs.Checks.{existenceChecked, usableChecked, tableUseChecked, tableWriteChecked}
 use Rattle.checks.specs.CheckLaws.{then}
 
@@ -16,6 +17,10 @@ module _ {c₁ c₂ : Check} (there : Bool) (known : Adds Passed c₁ (existence
 
   pub table-write-adds : (entries : ℕ) → Adds c₁ c₂ (tableChecked true entries) → Adds Passed c₂ (tableWriteChecked there entries)
   table-write-adds entries a = then known a
+
+pub two-texts-adds : {c₁ c₂ c₃ c₄ : Check} (m n : ℕ) → Adds Passed c₁ (emptyChecked m) → Adds c₁ c₂ (emptyChecked n) →
+    Adds c₂ c₃ (limitChecked maxLength m) → Adds c₃ c₄ (limitChecked maxLength n) → Adds Passed c₄ (twoTextsChecked m n)
+two-texts-adds m n a b c d = then a (then b (then c d))
 
 module _ {c₁ c₂ : Check} (n : ℕ) where
   pub text-adds : (given : ℕ) → Adds Passed c₁ (lengthChecked maxLength n) → Adds c₁ c₂ (outputChecked n given) →

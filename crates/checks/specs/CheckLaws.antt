@@ -1,8 +1,8 @@
 -- Checks one after the other, what they make of the answer, and what is known where they pass.
 -- Assumes nothing.
-use mathlib.Core.Path.{_≡_, refl, sym, ap, _∙_}
+use mathlib.Core.Path.{_≡_, refl, sym, ap, subst, _∙_}
 use mathlib.Core.Bool.{Bool, true, false, not, _&&_}
-use Prim.Native.Nat.{ℕ, zero, suc, _<_, _≤_}
+use Prim.Native.Nat.{ℕ, zero, suc, _-_, _<_, _≤_}
 use native.Mathlib.Omega.{arith}
 use borrow.Author.Tests.{lt-ltb, le-ltb, eq-eqb, ne-eqb, ltb-false, eqb-true, eqb-false, not-false}
 use lib.Dec.{ltb, eqb}
@@ -10,19 +10,28 @@ use Rattle.answer.specs.declared.Answer.{Answer}
 use Rattle.answer.specs.declared.Outcome.{Outcome}
 use Rattle.answer.specs.declared.Outcome.the-variants.{Accepted, Refused}
 use Rattle.answer.specs.declared.Reason.{Reason}
-use Rattle.answer.specs.declared.Reason.the-variants.{EmptyText, TextTooLong, UnknownOrder, ShortOutput, ShortWork, FileTooLong, WrongTable}
+use Rattle.answer.specs.declared.Reason.the-variants.{EmptyText, TextTooLong, UnknownOrder, ShortOutput, ShortWork, FileTooLong, WrongTable, NotLyndon}
 use Rattle.checks.specs.declared.Check.{Check}
 use Rattle.checks.specs.declared.Check.the-variants.{Passed, Failed}
 use Rattle.answer.specs.Answers.{acceptedWith, refusedFor, refusedIf, accepted-apart}
 use Rattle.answer.specs.Limits.{Sized, maxLength, maxLetters, maxInput, runListLength, workLength, rankedOrder, tableLength}
-use Rattle.checks.specs.Checks.{limitChecked, lengthChecked, orderChecked, outputChecked, workChecked, inputChecked, textChecked}
+use Rattle.checks.specs.Checks.{emptyChecked, limitChecked, lengthChecked, orderChecked, outputChecked, workChecked, inputChecked, textChecked}
 use Rattle.checks.specs.Checks.{orderedTextChecked, forestChecked, runsChecked, readerChecked, answerTo, Adds}
 use Rattle.checks.specs.Checks.{tableChecked, rankedChecked, rankedTextChecked, rankedForestChecked, rankedRunsChecked, usesTable}
+use Rattle.checks.specs.Checks.{lyndonChecked, twoTextsChecked, prefixesChecked, lyndonWordChecked}
 
 -- A check, and then another.
 pub then : {earlier mid now : Check} {check further : Answer → Answer} → Adds earlier mid check → Adds mid now further →
     Adds earlier now (λ rest. check (further rest))
 then {further = further} a b = record { answer = λ rest. b .answer rest ∙ a .answer (further rest) }
+
+-- The length, the places and the text itself, one after the other, where the places needed and what was found of the text are as stated.
+pub lyndon-word-adds : {c₁ c₂ c₃ : Check} {needed : ℕ} {held : Bool} (n given : ℕ) (holds : Bool) → needed ≡ n - 1 → held ≡ holds →
+    Adds Passed c₁ (lengthChecked maxLength n) → Adds c₁ c₂ (outputChecked needed given) → Adds c₂ c₃ (lyndonChecked held) →
+    Adds Passed c₃ (lyndonWordChecked n given holds)
+lyndon-word-adds {c₁} {c₂} {c₃} n given holds e f a b c =
+    then a
+    (then (subst (λ (k : ℕ). Adds c₁ c₂ (outputChecked k given)) e b) (subst (λ (h : Bool). Adds c₂ c₃ (lyndonChecked h)) f c))
 
 module _ {now : Check} {check : Answer → Answer} (all : Adds Passed now check) (rest : Answer) where
   -- Checks that pass leave what follows.
@@ -61,6 +70,9 @@ module _ (rest : Answer) where
   pub work-cleared : (needed given : ℕ) → workChecked needed given rest ≡ acceptedWith 0 → (needed ≤ given) × (rest ≡ acceptedWith 0)
   work-cleared needed given e = let p = if-cleared (ltb given needed) ShortWork 0 e in (ltb-false given needed (p .0), p .1)
 
+  pub lyndon-cleared : (holds : Bool) → lyndonChecked holds rest ≡ acceptedWith 0 → (holds ≡ true) × (rest ≡ acceptedWith 0)
+  lyndon-cleared holds e = let p = if-cleared (not holds) NotLyndon 0 e in (not-false holds (p .0), p .1)
+
   -- A table that is used has its length.
   pub table-cleared : (used : Bool) (entries : ℕ) → tableChecked used entries rest ≡ acceptedWith 0 →
       (used ≡ true → entries ≡ tableLength) × (rest ≡ acceptedWith 0)
@@ -94,6 +106,33 @@ module _ {now : Check} where
   text-passed n given all e =
       let sized = sized-passed n (outputChecked n given) all e in
       (sized .0, output-cleared (acceptedWith 0) n given (sized .1) .0)
+
+  pub two-texts-passed : (m n : ℕ) → Adds Passed now (twoTextsChecked m n) → now ≡ Passed → Sized m × Sized n
+  two-texts-passed m n all e =
+      let both = limitChecked maxLength m (limitChecked maxLength n (acceptedWith 0)) in
+      let first-some = if-cleared (emptyChecked n both) (eqb m 0) EmptyText 0 (passing all (acceptedWith 0) e) in
+      let both-some = if-cleared both (eqb n 0) EmptyText 0 (first-some .1) in
+      let first-short = if-cleared (limitChecked maxLength n (acceptedWith 0)) (ltb maxLength m) TextTooLong 0 (both-some .1) in
+      let both-short = if-cleared (acceptedWith 0) (ltb maxLength n) TextTooLong 0 (first-short .1) in (
+        record { some = omega (arith, eqb-false m 0 (first-some .0)); short = ltb-false maxLength m (first-short .0) },
+        record { some = omega (arith, eqb-false n 0 (both-some .0)); short = ltb-false maxLength n (both-short .0) },
+      )
+
+  prefixed-passed : (n given : ℕ) (check : Answer → Answer) → Adds Passed now (λ rest. prefixesChecked n given (check rest)) → now ≡ Passed →
+      Sized n × (n - 1 ≤ given) × (check (acceptedWith 0) ≡ acceptedWith 0)
+  prefixed-passed n given check all e =
+      let sized = sized-passed n (λ rest. outputChecked (n - 1) given (check rest)) all e in
+      let room = output-cleared (check (acceptedWith 0)) (n - 1) given (sized .1) in
+      (sized .0, room .0, room .1)
+
+  pub prefixes-passed : (n given : ℕ) → Adds Passed now (prefixesChecked n given) → now ≡ Passed → Sized n × (n - 1 ≤ given)
+  prefixes-passed n given all e = let known = prefixed-passed n given (λ rest. rest) all e in (known .0, known .1)
+
+  pub lyndon-word-passed : (n given : ℕ) (holds : Bool) → Adds Passed now (lyndonWordChecked n given holds) → now ≡ Passed →
+      Sized n × (n - 1 ≤ given) × (holds ≡ true)
+  lyndon-word-passed n given holds all e =
+      let known = prefixed-passed n given (lyndonChecked holds) all e in
+      (known .0, known .1, lyndon-cleared (acceptedWith 0) holds (known .2) .0)
 
   pub ordered-text-passed : (n order given : ℕ) → Adds Passed now (orderedTextChecked n order given) → now ≡ Passed →
       Sized n × (order ≤ 1) × (n ≤ given)
@@ -164,6 +203,9 @@ module _ (rest : Answer) where
   pub output-passes : (needed given : ℕ) → needed ≤ given → outputChecked needed given rest ≡ rest
   output-passes needed given h = simp (le-ltb given needed h)
 
+  pub lyndon-passes : (holds : Bool) → holds ≡ true → lyndonChecked holds rest ≡ rest
+  lyndon-passes holds t = simp t
+
   pub work-passes : (needed given : ℕ) → needed ≤ given → workChecked needed given rest ≡ rest
   work-passes needed given h = simp (le-ltb given needed h)
 
@@ -176,6 +218,9 @@ module _ (n : ℕ) (sized : Sized n) where
     pub text-passes : (given : ℕ) → n ≤ given → textChecked n given rest ≡ rest
     text-passes given room = array-passes _ ∙ output-passes rest n given room
 
+    pub prefixes-passes : (given : ℕ) → n - 1 ≤ given → prefixesChecked n given rest ≡ rest
+    prefixes-passes given room = array-passes _ ∙ output-passes rest (n - 1) given room
+
     pub ordered-text-passes : (order given : ℕ) → order ≤ 1 → n ≤ given → orderedTextChecked n order given rest ≡ rest
     ordered-text-passes order given named room = array-passes _ ∙ order-passes _ 1 order named ∙ output-passes rest n given room
 
@@ -185,6 +230,16 @@ module _ (n : ℕ) (sized : Sized n) where
     pub runs-passes : (list work : ℕ) → runListLength n ≤ list → workLength n ≤ work → runsChecked n list work rest ≡ rest
     runs-passes list work list-room work-room =
         array-passes _ ∙ output-passes _ (runListLength n) list list-room ∙ work-passes rest (workLength n) work work-room
+
+-- And those of a call on two texts, where both have letters and neither too many.
+pub two-texts-passes : (m n : ℕ) → Sized m → Sized n → (rest : Answer) → twoTextsChecked m n rest ≡ rest
+two-texts-passes m n first second rest =
+    simp (
+      ne-eqb m 0 (λ e. omega (arith, first .some)),
+      ne-eqb n 0 (λ e. omega (arith, second .some)),
+      le-ltb maxLength m (first .short),
+      le-ltb maxLength n (second .short),
+    )
 
 -- Orders 0 and 1 use no table.
 pub table-unused : (order : ℕ) → order ≤ 1 → ¬ (usesTable order ≡ true)
@@ -227,6 +282,9 @@ module _ (rest : Answer) where
 
   pub output-short : (needed given : ℕ) → given < needed → outputChecked needed given rest ≡ refusedFor ShortOutput 0
   output-short needed given h = simp (lt-ltb given needed h)
+
+  pub lyndon-fails : (holds : Bool) → holds ≡ false → lyndonChecked holds rest ≡ refusedFor NotLyndon 0
+  lyndon-fails holds f = simp f
 
   pub work-short : (needed given : ℕ) → given < needed → workChecked needed given rest ≡ refusedFor ShortWork 0
   work-short needed given h = simp (lt-ltb given needed h)

@@ -2,12 +2,13 @@
 -- Assumes nothing.
 use mathlib.Core.Path.{_≡_}
 use mathlib.Core.Bool.{Bool, true, not, _&&_}
-use Prim.Native.Nat.{ℕ}
+use Prim.Native.Nat.{ℕ, _-_}
 use lib.Dec.{ltb, eqb}
 use Rattle.answer.specs.declared.Answer.{Answer}
 use Rattle.checks.specs.declared.Check.{Check}
 use Rattle.checks.specs.declared.Check.the-variants.{Passed, Failed}
-use Rattle.answer.specs.declared.Reason.the-variants.{EmptyText, TextTooLong, UnknownOrder, ShortOutput, ShortWork, FileTooLong, WrongTable, UnknownTable, UnwrittenTable}
+use Rattle.answer.specs.declared.Reason.the-variants.{EmptyText, TextTooLong, UnknownOrder, ShortOutput, ShortWork, FileTooLong}
+use Rattle.answer.specs.declared.Reason.the-variants.{WrongTable, NotLyndon, UnknownTable, UnwrittenTable}
 use Rattle.answer.specs.Answers.{refusedFor, refusedIf}
 use Rattle.answer.specs.Limits.{maxLength, maxLetters, maxInput, runListLength, workLength, rankedOrder, tableLength}
 
@@ -47,6 +48,10 @@ usableChecked usable = refusedIf (not usable) UnwrittenTable 0
 abbrev pub outputChecked : ℕ → ℕ → Answer → Answer
 outputChecked needed given = refusedIf (ltb given needed) ShortOutput 0
 
+-- Refusal 17: a text that must be a Lyndon word is one (document 02, E5).
+abbrev pub lyndonChecked : Bool → Answer → Answer
+lyndonChecked holds = refusedIf (not holds) NotLyndon 0
+
 -- Refusal 5: the work buffer.
 abbrev pub workChecked : ℕ → ℕ → Answer → Answer
 workChecked needed given = refusedIf (ltb given needed) ShortWork 0
@@ -62,6 +67,18 @@ textChecked n given rest = lengthChecked maxLength n (outputChecked n given rest
 -- 1, 2, 3 and 4: such a call that has an order number, 0 or 1.
 abbrev pub orderedTextChecked : ℕ → ℕ → ℕ → Answer → Answer
 orderedTextChecked n order given rest = lengthChecked maxLength n (orderChecked 1 order (outputChecked n given rest))
+
+-- 1 for either text, then 2 for either text: a call on two texts, of m and n letters (document 02, E5).
+abbrev pub twoTextsChecked : ℕ → ℕ → Answer → Answer
+twoTextsChecked m n rest = emptyChecked m (emptyChecked n (limitChecked maxLength m (limitChecked maxLength n rest)))
+
+-- 1, 2 and 4: a call on n letters that needs one place fewer (document 02, E5).
+abbrev pub prefixesChecked : ℕ → ℕ → Answer → Answer
+prefixesChecked n given rest = lengthChecked maxLength n (outputChecked (n - 1) given rest)
+
+-- 1, 2, 4 and 17: such a call on letters that must be a Lyndon word (document 02, E5).
+abbrev pub lyndonWordChecked : ℕ → ℕ → Bool → Answer → Answer
+lyndonWordChecked n given holds rest = prefixesChecked n given (lyndonChecked holds rest)
 
 -- 1, 2, 3 and 16: a call on n letters that has an order number, 0 to 2, and a rank table.
 abbrev pub rankedChecked : ℕ → ℕ → ℕ → Answer → Answer

@@ -9,6 +9,7 @@ ghost use Rattle.checks.specs.Checks.{Adds, emptyChecked, limitChecked, 
 ghost use Rattle.checks.specs.Checks.{inputChecked, textChecked, orderedTextChecked, forestChecked, runsChecked, readerChecked};
 ghost use Rattle.checks.specs.Checks.{tableChecked, rankedChecked, rankedTextChecked, rankedForestChecked, rankedRunsChecked};
 ghost use Rattle.checks.specs.Checks.{existenceChecked, usableChecked, tableUseChecked, tableWriteChecked};
+ghost use Rattle.checks.specs.Checks.{lyndonChecked, twoTextsChecked};
 ghost use Rattle.checks.specs.declared.Check.the-variants.{Passed};
 
 // What the checks so far say.
@@ -17,7 +18,7 @@ pub enum Check {
     Failed { reason: Reason, position: u32 },
 }
 
-// 1 and 2: a call on n entries that writes nothing.
+// 1 and 2: a call on n letters or entries.
 pub fn array(n: usize) -> Check
     ensures check { λ r. ⌜ Adds Passed r (lengthChecked maxLength n) ⌝ }
 {
@@ -38,6 +39,16 @@ pub fn ordered_text(letters: usize, number: u32, given: usize) -> Check
     let sized = length(Check::Passed, limits::MAX_LENGTH, letters);
     let named = order(sized, 1, number);
     output(named, letters, given)
+}
+
+// 1 for either text, then 2 for either text: a call on two texts, of m and n letters.
+pub fn two_texts(m: usize, n: usize) -> Check
+    ensures check { λ r. ⌜ Adds Passed r (twoTextsChecked m n) ⌝ }
+{
+    let first_some = nonempty(Check::Passed, m);
+    let both_some = nonempty(first_some, n);
+    let first_sized = at_most(both_some, limits::MAX_LENGTH, m);
+    at_most(first_sized, limits::MAX_LENGTH, n)
 }
 
 // 1, 2, 3 and 16: a call on letters in order 0, 1 or 2, with the length of its rank table.
@@ -194,8 +205,15 @@ fn usability(earlier: Check, usable: bool) -> Check
     refuse_if(earlier, !usable, Reason::UnwrittenTable, 0)
 }
 
+// 17: a text that must be a Lyndon word is one.
+pub fn lyndon(earlier: Check, holds: bool) -> Check
+    ensures check { λ r. ⌜ Adds earlier r (lyndonChecked holds) ⌝ }
+{
+    refuse_if(earlier, !holds, Reason::NotLyndon, 0)
+}
+
 // 4: an output buffer has the places needed.
-fn output(earlier: Check, needed: usize, given: usize) -> Check
+pub fn output(earlier: Check, needed: usize, given: usize) -> Check
     ensures check { λ r. ⌜ Adds earlier r (outputChecked needed given) ⌝ }
 {
     refuse_if(earlier, given < needed, Reason::ShortOutput, 0)

@@ -1,5 +1,6 @@
 // The limits of documents 01 and 02 that the calls share, named here and in the file `Limits` of `answer`. Nothing is assumed.
 ghost use mathlib.Core.Path.{_≡_};
+ghost use Prim.Native.Nat.{_-_};
 ghost use Rattle.answer.specs.Limits.{maxLetters};
 
 // The most letters of a text, or entries of an array.
@@ -28,4 +29,11 @@ pub fn max_letters() -> usize
     ensures limit { λ r. ⌜ r ≡ maxLetters ⌝ }
 {
     MAX_LETTERS
+}
+
+// One fewer than n, and 0 for 0: a text of n letters has as many proper non-empty prefixes.
+pub fn one_fewer(n: usize) -> usize
+    ensures fewer { λ r. ⌜ r ≡ n - 1 ⌝ }
+{
+    if n == 0 { 0 } else { n - 1 }
 }

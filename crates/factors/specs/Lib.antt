@@ -2,10 +2,12 @@ pub mod Duval
 pub mod DuvalSteps
 pub mod DuvalTurns
 pub mod DuvalFactorization
+pub mod DuvalLyndon
 pub mod DuvalCount
 pub mod DuvalAlike
 pub mod DuvalPast
 pub mod DuvalIndexed
+pub mod LyndonTest
 pub mod Results
 pub mod Answers
 pub mod Theorems

@@ -9,11 +9,13 @@ use Rattle.answer.specs.declared.Outcome.{Outcome}
 use Rattle.answer.specs.declared.Outcome.the-variants.{Accepted, Refused}
 use Rattle.answer.specs.declared.Reason.{Reason}
 use Rattle.answer.specs.declared.Reason.the-variants.{EmptyText, TextTooLong, UnknownOrder, WrongTable, ShortOutput, ShortWork, ZeroEntry, LongEntry, CrossingSpans}
-use Rattle.answer.specs.declared.Reason.the-variants.{NoHeader, BadName, UnfitByte, SecondRecord, NoLetters, TooManyLetters, FileTooLong, UnknownTable, UnwrittenTable}
+use Rattle.answer.specs.declared.Reason.the-variants.{NoHeader, BadName, UnfitByte, SecondRecord, NoLetters, TooManyLetters, FileTooLong}
+use Rattle.answer.specs.declared.Reason.the-variants.{NotLyndon, UnknownTable, UnwrittenTable}
 use Rattle.fasta.specs.Rows.{HeaderEnds, sequenceLetters, Row}
 
 -- "Checks run from the top row down; 6 and 7 share one pass, as do 11, 12 and 14": the passes in their order, which are
--- not the numbers of the refusals. 16 stands "directly after 3" (document 02, E1), 21 is "tested first", 22 "next" (E9).
+-- not the numbers of the refusals. 16 stands "directly after 3" (document 02, E1), 17 is "tested after refusal 4" (E5),
+-- 21 is "tested first", 22 "next" (E9).
 abbrev pub passOf : Reason → ℕ
 passOf UnknownTable = 1
 passOf UnwrittenTable = 2
@@ -22,17 +24,18 @@ passOf TextTooLong = 4
 passOf UnknownOrder = 5
 passOf WrongTable = 6
 passOf ShortOutput = 7
-passOf ShortWork = 8
-passOf ZeroEntry = 9
-passOf LongEntry = 9
-passOf CrossingSpans = 10
-passOf FileTooLong = 11
-passOf NoHeader = 12
-passOf BadName = 13
-passOf UnfitByte = 14
-passOf SecondRecord = 14
-passOf TooManyLetters = 14
-passOf NoLetters = 15
+passOf NotLyndon = 8
+passOf ShortWork = 9
+passOf ZeroEntry = 10
+passOf LongEntry = 10
+passOf CrossingSpans = 11
+passOf FileTooLong = 12
+passOf NoHeader = 13
+passOf BadName = 14
+passOf UnfitByte = 15
+passOf SecondRecord = 15
+passOf TooManyLetters = 15
+passOf NoLetters = 16
 
 -- The check for r at p comes before the check for r′ at p′: in an earlier pass, or in the same pass at a lesser position.
 pub data EarlierCheck (r : Reason) (p : ℕ) (r′ : Reason) (p′ : ℕ) : Type 0 where

@@ -15,6 +15,8 @@ ghost use Rattle.left_forest.specs.Answers.{leftForestAnswer, leftForestRankedA
 ghost use Rattle.left_forest.specs.Theorems.{leftFirstAfter, leftPastAfter, leftFirstRankedAfter, leftPastRankedAfter};
 ghost use Rattle.from_array.specs.Answers.{reconstructAnswer, rightForestAnswer};
 ghost use Rattle.from_array.specs.Theorems.{textAfter, rightFirstAfter, rightPastAfter};
+ghost use Rattle.infinite_order.specs.Answers.{compareAnswer, prefixPermutationAnswer};
+ghost use Rattle.infinite_order.specs.PrefixTheorems.{permutationAfter};
 ghost use Rattle.fasta.specs.Reader.{readerAnswer, lettersAfter};
 ghost use Rattle.table_store.specs.Store.{newStore, lookup};
 ghost use Rattle.table_store.specs.Calls.{writeAnswer, storeAfter, readAnswer, readAfter, arrayStoredAnswer, arrayStoredAfter};
@@ -202,6 +204,23 @@ pub extern "C" fn lyndon_reconstruct(array: &[u32], text: &mut [u32]) -> LyndonA
     ensures content { λ r. ⌜ now (text .exit) ≡ textAfter (now (array .entry)) (now (text .entry)) ⌝ }
 {
     exported(from_array::reconstruct(array, text))
+}
+
+// Which of two texts of bytes is before the other in infinite order, in rising order of letters.
+#[no_mangle]
+pub extern "C" fn lyndon_compare_infinite(u: &[u8], v: &[u8]) -> LyndonAnswer
+    ensures answer { λ r. ⌜ r ≡ recordOf (compareAnswer (now (u .entry)) (now (v .entry))) ⌝ }
+{
+    exported(infinite_order::compare::compare_infinite(u, v))
+}
+
+// The prefix standard permutation of a Lyndon word of bytes, in rising order of letters.
+#[no_mangle]
+pub extern "C" fn lyndon_prefix_permutation(word: &[u8], out: &mut [u32]) -> LyndonAnswer
+    ensures answer { λ r. ⌜ r ≡ recordOf (prefixPermutationAnswer (now (word .entry)) (length (now (out .entry)))) ⌝ }
+    ensures content { λ r. ⌜ now (out .exit) ≡ permutationAfter (now (word .entry)) (now (out .entry)) ⌝ }
+{
+    exported(infinite_order::prefix_permutation::prefix_permutation(word, out))
 }
 
 // The letters of a FASTA input of one record.

@@ -8,3 +8,5 @@ pub mod LeftForest
 pub mod RightForest
 pub mod Runs
 pub mod ValidArray
+pub mod InfiniteOrder
+pub mod PrefixPermutation

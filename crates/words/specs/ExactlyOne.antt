@@ -1,6 +1,6 @@
 -- What makes the definitions definitions: for letters whose comparisons are decided every text has exactly one Lyndon array, factorization,
--- suffix table, right forest, left forest and run list, and every array one verdict. For all ordered letters there is at most one of each,
--- and that there is none is refuted.
+-- suffix table, right forest, left forest, run list and prefix standard permutation, and every array one verdict. For all ordered letters there
+-- is at most one of each, and that there is none is refuted.
 -- Assumes nothing.
 use mathlib.Core.Path.{_≡_}
 use mathlib.Core.List.{List}
@@ -14,6 +14,7 @@ use Rattle.words.specs.SuffixTable.{IsSuffixTable}
 use Rattle.words.specs.RightForest.{IsRightForest}
 use Rattle.words.specs.LeftForest.{IsLeftForest}
 use Rattle.words.specs.Runs.{IsRunList}
+use Rattle.words.specs.PrefixPermutation.{IsPrefixPermutation}
 use Rattle.words.specs.Compute.LyndonArray.{arrayOf, arrayOf-holds}
 use Rattle.words.specs.Compute.Factorization.{factorizationOf, factorizationOf-holds}
 use Rattle.words.specs.Compute.SuffixTable.{suffixTableOf, suffixTableOf-holds}
@@ -22,6 +23,7 @@ use Rattle.words.specs.Laws.ForestRecords.{leftForestOf-holds}
 use Rattle.words.specs.Compute.RightForest.{rightFirstOf, rightPastOf, rightForestOf-holds}
 use Rattle.words.specs.Compute.Runs.{runsOf}
 use Rattle.words.specs.Laws.RunSearch.{runsOf-holds}
+use Rattle.words.specs.Compute.PrefixPermutation.{prefixPermutationOf}
 use Rattle.words.specs.Compute.ValidArray.{HasVerdict, checkArray, checkArray-holds}
 use Rattle.words.specs.Laws.Lyndon.{LyndonTest}
 use Rattle.words.specs.Laws.Existence.{test-irrefutable, tested-array, tested-factorization, tested-suffix-table, tested-right-forest, tested-left-forest}
@@ -30,6 +32,7 @@ use Rattle.words.specs.Laws.Unique.{array-unique, suffix-table-unique}
 use Rattle.words.specs.Laws.FactorChain.{factorization-unique}
 use Rattle.words.specs.Laws.ForestUnique.{right-forest-unique, left-forest-unique}
 use Rattle.words.specs.Laws.Runs.{run-list-unique}
+use Rattle.words.specs.Laws.PrefixPermutation.{prefix-permutation-unique, prefixPermutationOf-holds, prefix-permutation-irrefutable}
 use Rattle.words.specs.Laws.ValidArray.{verdict-unique}
 
 -- The value has the property, and no other has it.
@@ -83,6 +86,13 @@ module _ {ℓ κ} {A : Type ℓ} {O : Letters {ℓ, κ} A} (D : Decided O) (x : 
       let holds = leftForestOf-holds D x (factorizationOf-holds D x) in
       record { holds = holds; only = λ b h. both-buffers (left-forest-unique h holds) }
 
+  pub one-prefix-permutation : (z : A) → ExactlyOne (IsPrefixPermutation O x) (prefixPermutationOf D z x)
+  one-prefix-permutation z =
+      record {
+        holds = prefixPermutationOf-holds D z x;
+        only = λ b h. prefix-permutation-unique O x b (prefixPermutationOf D z x) h (prefixPermutationOf-holds D z x);
+      }
+
 -- All ordered letters, with no comparison decided.
 module _ {ℓ κ} {A : Type ℓ} (O : Letters {ℓ, κ} A) (x : List A) where
   tested {μ ν} : {B : Type μ} {P : B → Type ν} → (LyndonTest O x → (b : B) × P b) → ¬ ¬ ((b : B) × P b)
@@ -110,6 +120,9 @@ module _ {ℓ κ} {A : Type ℓ} (O : Letters {ℓ, κ} A) (x : List A) where
         not-two = λ b c h k. both-buffers (left-forest-unique h k);
         not-none = tested (λ t. let f = tested-left-forest t in (record { first = f .0; past = f .1 }, f .2));
       }
+
+  pub prefix-permutation-for-all : NeitherTwoNorNone (IsPrefixPermutation O x)
+  prefix-permutation-for-all = record { not-two = prefix-permutation-unique O x; not-none = prefix-permutation-irrefutable O x }
 
 pub one-run-list {ℓ} : {A : Type ℓ} (E : DecidedEquality A) (x : List A) → ExactlyOne (IsRunList x) (runsOf E x)
 one-run-list E x = record { holds = runsOf-holds E x; only = λ b h. run-list-unique h (runsOf-holds E x) }

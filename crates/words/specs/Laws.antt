@@ -19,6 +19,7 @@ pub mod ForestUnique
 pub mod StandardFactorization
 pub mod ForestPositions
 pub mod ForestRecords
+pub mod Sorted
 pub mod Runs
 pub mod LargerPeriods
 pub mod RunTests
@@ -26,6 +27,11 @@ pub mod RunSearch
 pub mod RunRenaming
 pub mod Different
 pub mod Periods
+pub mod Endless
+pub mod InfiniteOrder
+pub mod PrefixOrder
+pub mod Insertion
+pub mod PrefixPermutation
 pub mod Rotations
 pub mod RunRoots
 pub mod RunExtent

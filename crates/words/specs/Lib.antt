@@ -10,7 +10,10 @@ pub mod SuffixTable
 pub mod CutTree
 pub mod RightForest
 pub mod LeftForest
+pub mod Sorted
 pub mod Runs
+pub mod InfiniteOrder
+pub mod PrefixPermutation
 pub mod Different
 pub mod ValidArray
 pub mod ArrayForest

@@ -5,6 +5,7 @@ use mathlib.Core.Logic.{_⊎_}
 use mathlib.Core.List.{List, [], _∷_, List·Memᴰ}
 use Prim.Native.Nat.{ℕ, suc, _+_, _<_, _≤_}
 use lib.ListN.{length, getElem?}
+use Rattle.words.specs.Sorted.{SortedBy}
 
 -- The letters at i and at k are equal.
 abbrev pub SameLetter {ℓ} : {A : Type ℓ} → List A → ℕ → ℕ → Type ℓ
@@ -36,16 +37,15 @@ pub record Entry : Type 0 where
 abbrev pub Earlier : Entry → Entry → Type 0
 Earlier r t = (r .start < t .start) ⊎ ((r .start ≡ t .start) × (r .last < t .last))
 
--- Each entry stands before all that follow it; `List·Memᴰ t rs` says that t stands in the list rs.
+-- Each entry stands before all that follow it.
 abbrev pub Sorted : List Entry → Type 0
-Sorted [] = Unit {0}
-Sorted (r ∷ rs) = ((t : Entry) → List·Memᴰ t rs → Earlier r t) × Sorted rs
+Sorted = SortedBy Earlier
 
 abbrev pub IsRun {ℓ} : {A : Type ℓ} → List A → Entry → Type ℓ
 IsRun x r = Run x (r .start) (suc (r .last)) (r .period)
 
 -- rs lists the runs of x (document 01, "The calls"): it holds an entry exactly when it is a run, by start and then by last position,
--- none twice.
+-- none twice; `List·Memᴰ r rs` says that r stands in the list rs.
 pub record IsRunList {ℓ} {A : Type ℓ} (x : List A) (rs : List Entry) : Type ℓ where
   pub sound : (r : Entry) → List·Memᴰ r rs → IsRun x r
   pub complete : (r : Entry) → IsRun x r → List·Memᴰ r rs

@@ -194,6 +194,15 @@ pub fn runs_ranked(text: &[u8], table: &[u8], work: &mut [u32], list: &mut [u32]
     kept(text, || kept(table, || result(ffi::runs_ranked(text, table, work, list))))
 }
 
+pub fn compare_infinite(u: &[u8], v: &[u8]) -> Result<usize, Error> {
+    kept(u, || kept(v, || result(ffi::compare_infinite(u, v))))
+}
+
+pub fn prefix_permutation(word: &[u8], out: &mut [u32]) -> Result<usize, Error> {
+    fill(out);
+    kept(word, || result(ffi::prefix_permutation(word, out)))
+}
+
 pub fn read_fasta(input: &[u8], letters: &mut [u8]) -> Result<usize, Error> {
     fill(letters);
     kept(input, || result(ffi::read_fasta(input, letters)))
@@ -435,6 +444,20 @@ pub fn two_powers(w: &[u8], n: usize) -> Vec<u8> {
     text
 }
 
+/// Whether a text is a Lyndon word, by number: it has one factor.
+pub fn is_lyndon(x: &[u8]) -> bool {
+    definitions::duval(0, x).0.len() == 1
+}
+
+/// The least rotation, by number: a Lyndon word where the text is no power of a shorter word.
+pub fn least_rotation(x: &[u8]) -> Vec<u8> {
+    let (starts, _) = definitions::duval(0, &[x, x].concat());
+    let last = starts.into_iter().rfind(|&start| (start as usize) < x.len()).unwrap_or(0);
+    let mut rotated = x.to_vec();
+    rotated.rotate_left(last as usize);
+    rotated
+}
+
 /// Random letters, gaps and tandem repeats in turn.
 pub fn repetitive(numbers: &mut Numbers, n: usize) -> Vec<u8> {
     let mut text = vec![];
@@ -496,5 +519,27 @@ pub fn families(n: usize) -> Vec<(String, Vec<u8>)> {
     list.push(("random bytes".to_string(), numbers.text(&bytes, n)));
     list.push(("random, 4 letters, either case".to_string(), numbers.text(b"ACGTacgt", n)));
     list.push(("fibonacci, either case".to_string(), in_either_case(&mut numbers, &fibonacci(n))));
+    list
+}
+
+/// Lyndon words of n letters, at least 16, with a name for each: the least rotations of the families, where these are no powers, and words of
+/// many periods.
+pub fn lyndon_families(n: usize) -> Vec<(String, Vec<u8>)> {
+    let rotated = families(n).into_iter().map(|(name, x)| (format!("{name}, least rotation"), least_rotation(&x)));
+    let mut list: Vec<_> = rotated.filter(|(_, x)| is_lyndon(x)).collect();
+    let m = (n as f64).sqrt() as usize;
+    let a_b = |m: usize| [power(b"a", m), b"b".to_vec()].concat();
+    for (name, front, unit, end) in [
+        ("a b^(n-1)", b"a".to_vec(), b"b".to_vec(), b"b"),
+        ("(ab)^k c", vec![], a_b(1), b"c"),
+        ("a^m b (ab)^k c", a_b(n / 2), a_b(1), b"c"),
+        ("a^m b (a^(m-1) b)^k c", a_b(m), a_b(m - 1), b"c"),
+        ("a fibonacci c", b"a".to_vec(), fibonacci(n), b"c"),
+        ("half zimin", vec![], zimin(n), b"z"),
+    ] {
+        let behind = power(&unit, n - 1 - front.len());
+        list.push((name.to_string(), [&front[..], &behind, end].concat()));
+    }
+    assert!(list.iter().all(|(_, x)| is_lyndon(x)));
     list
 }

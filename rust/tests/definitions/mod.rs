@@ -178,6 +178,20 @@ pub fn runs(x: &[u8]) -> Vec<u32> {
     list
 }
 
+/// The infinite order (document 02, E5): endless copies by the first letter that differs; where they never differ the longer word is smaller.
+/// Both repeat from the start after |u| × |v| letters, so that nothing new comes behind those.
+pub fn infinite_compare(u: &[u8], v: &[u8]) -> Ordering {
+    let letters = u.len() * v.len();
+    u.iter().cycle().take(letters).cmp(v.iter().cycle().take(letters)).then(v.len().cmp(&u.len()))
+}
+
+/// The last positions of the proper non-empty prefixes, in infinite order.
+pub fn prefix_permutation(w: &[u8]) -> Vec<u32> {
+    let mut last: Vec<usize> = (0..w.len() - 1).collect();
+    last.sort_by(|&i, &j| infinite_compare(&w[..=i], &w[..=j]));
+    last.into_iter().map(|i| i as u32).collect()
+}
+
 // Arrays
 
 /// The first fault of an array: number and position.
@@ -394,6 +408,27 @@ pub fn ranked_answer<C>(
 
 pub fn runs_ranked_answer(x: &[u8], table: &[u8], work: usize, list: usize) -> Expected<u32> {
     refusal(&[length(x.len()), rank_table(table), run_buffers(x.len(), work, list)]).unwrap_or_else(|| runs_accepted(&row(table, x)))
+}
+
+/// The count of a comparison: below, same, above.
+pub fn comparison_count(comparison: Ordering) -> usize {
+    match comparison {
+        Ordering::Less => 0,
+        Ordering::Equal => 1,
+        Ordering::Greater => 2,
+    }
+}
+
+/// The answer of a comparison of two texts, by a method that compares them. If either is empty the shorter one is, and that is told first.
+pub fn comparison_answer(u: &[u8], v: &[u8], compare: fn(&[u8], &[u8]) -> Ordering) -> Expected<u32> {
+    let (shorter, longer) = (u.len().min(v.len()), u.len().max(v.len()));
+    refusal(&[length(shorter), length(longer)]).unwrap_or_else(|| Accepted { count: comparison_count(compare(u, v)), written: vec![] })
+}
+
+pub fn prefix_permutation_answer(w: &[u8], places: usize) -> Expected<u32> {
+    refusal(&[length(w.len()), outputs(w.len().saturating_sub(1), &[places])])
+        .or_else(|| (!is_lyndon(0, w)).then(|| refused(17, 0)))
+        .unwrap_or_else(|| Accepted { count: w.len() - 1, written: vec![prefix_permutation(w)] })
 }
 
 fn array_checks(a: &[u32], places: &[usize]) -> Option<Expected<u32>> {

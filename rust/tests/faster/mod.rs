@@ -3,6 +3,7 @@
 
 use crate::definitions::default_row;
 use std::borrow::Cow;
+use std::cmp::Ordering;
 use std::collections::BTreeSet;
 
 /// The ranks of the suffixes of a text, by prefix doubling. `letters` are already numbered in the order wanted.
@@ -166,6 +167,48 @@ pub fn suffix_table_and_left_forest(x: &[u8]) -> (Vec<u32>, Vec<u32>, Vec<u32>) 
         past[s] = s as u32;
     }
     (table, first, past)
+}
+
+/// The infinite order: endless copies of u are smaller where uv is smaller than vu.
+pub fn infinite_compare(u: &[u8], v: &[u8]) -> Ordering {
+    [u, v].concat().cmp(&[v, u].concat()).then(v.len().cmp(&u.len()))
+}
+
+/// How far the suffix at each position agrees with the word.
+fn agreement_with_suffixes(w: &[u8]) -> Vec<usize> {
+    let n = w.len();
+    let mut agreement = vec![n; n];
+    // The letters from `start` up to `end` agree with the front of the word, and no earlier start gives a later end.
+    let (mut start, mut end) = (0, 0);
+    for i in 1..n {
+        let mut k = if i < end { agreement[i - start].min(end - i) } else { 0 };
+        while i + k < n && w[k] == w[i + k] {
+            k += 1;
+        }
+        agreement[i] = k;
+        if i + k > end {
+            (start, end) = (i, i + k);
+        }
+    }
+    agreement
+}
+
+/// The prefix standard permutation of a Lyndon word, by periods: of two prefixes the longer one comes first where the length of the shorter one
+/// is a period of it, else the shorter one (document 000, section 5).
+pub fn prefix_permutation(w: &[u8]) -> Vec<u32> {
+    let agreement = agreement_with_suffixes(w);
+    let is_period = |p: usize, length: usize| p + agreement[p] >= length;
+    let mut last: Vec<u32> = (0..w.len() as u32 - 1).collect();
+    last.sort_unstable_by(|&i, &j| {
+        let (short, long) = (i.min(j) as usize + 1, i.max(j) as usize + 1);
+        let by_length = i.cmp(&j);
+        if short < long && is_period(short, long) {
+            by_length.reverse()
+        } else {
+            by_length
+        }
+    });
+    last
 }
 
 /// The first fault of an array, with the ends of the open spans in an ordered set.

@@ -111,6 +111,8 @@ static void of_nothing(void) {
     answered(lyndon_runs(NULL, 0, NULL, 0, NULL, 0), 1, 0);
     for (uint32_t order = 0; order < 4; order++) refused_ranked(NULL, 0, order, NULL, 0, NULL, 0, 1);
     answered(lyndon_runs_ranked(NULL, 0, NULL, 0, NULL, 0, NULL, 0), 1, 0);
+    answered(lyndon_compare_infinite(NULL, 0, NULL, 0), 1, 0);
+    answered(lyndon_prefix_permutation(NULL, 0, NULL, 0), 1, 0);
     answered(lyndon_read_fasta(NULL, 0, NULL, 0), 4, 0);
     answered(lyndon_read_fasta(NULL, 0, letters, sizeof letters), 9, 0);
     written(lyndon_store_write(store, 1, 0, NULL, 0), 16, 0, &store);
@@ -136,6 +138,7 @@ static void into_nothing(void) {
     answered(lyndon_reconstruct(numbers, 6, NULL, 0), 4, 0);
     answered(lyndon_runs(text, 6, first, PLACES, NULL, 0), 4, 0);
     answered(lyndon_runs(text, 6, NULL, 0, second, PLACES), 5, 0);
+    answered(lyndon_prefix_permutation(text, 6, NULL, 0), 4, 0);
     answered(lyndon_read_fasta(text, 6, NULL, 0), 4, 0);
     for (uint32_t order = 0; order < 3; order++) refused_ranked(text, 6, order, ranks, 256, NULL, 0, 4);
     refused_ranked(text, 6, LYNDON_RANKED, NULL, 0, NULL, 0, 16);
@@ -378,6 +381,45 @@ static void in_default_order(void) {
     }
 }
 
+/* Parts of one text, which may overlap or be the same; no buffer is written. */
+static void texts_in_infinite_order(void) {
+    start_text("abaababB");
+    answered(lyndon_compare_infinite(text, 3, text, 2), 0, 0);
+    answered(lyndon_compare_infinite(text, 2, text, 3), 0, 2);
+    answered(lyndon_compare_infinite(text, 3, text, 5), 0, 0);
+    answered(lyndon_compare_infinite(text, 5, text, 3), 0, 2);
+    answered(lyndon_compare_infinite(text + 3, 4, text, 2), 0, 0);
+    answered(lyndon_compare_infinite(text + 5, 2, text, 2), 0, 1);
+    answered(lyndon_compare_infinite(text + 2, 2, text, 1), 0, 0);
+    answered(lyndon_compare_infinite(text, 8, text, 8), 0, 1);
+    answered(lyndon_compare_infinite(text + 7, 1, text, 1), 0, 0);
+    answered(lyndon_compare_infinite(text, 8, NULL, 0), 1, 0);
+    answered(lyndon_compare_infinite(NULL, 0, text, 8), 1, 0);
+    holds(first, NULL, 0);
+}
+
+/* The prefixes of Lyndon words in rising order, in exactly the places needed, and in one less; for one letter none, and no pointer. */
+static void prefixes_in_infinite_order(void) {
+    static const uint32_t prefixes[] = {0, 2, 1, 4, 6, 5, 3, 7};
+    start_text("abacabade");
+    answered(lyndon_prefix_permutation(text, 9, first, 7), 4, 0);
+    holds(first, NULL, 0);
+    answered(lyndon_prefix_permutation(text, 9, first, 8), 0, 8);
+    holds(first, prefixes, 8);
+    start_text("abacabade");
+    answered(lyndon_prefix_permutation(text, 9, first, PLACES), 0, 8);
+    holds(first, prefixes, 8);
+    start_text("Ba");
+    answered(lyndon_prefix_permutation(text, 2, first, PLACES), 0, 1);
+    holds(first, prefixes, 1);
+    answered(lyndon_prefix_permutation(text, 1, NULL, 0), 0, 0);
+    start_text("aB");
+    answered(lyndon_prefix_permutation(text, 1, first, PLACES), 0, 0);
+    answered(lyndon_prefix_permutation(text, 2, first, PLACES), 17, 0);
+    answered(lyndon_prefix_permutation(text, 2, NULL, 0), 4, 0);
+    holds(first, NULL, 0);
+}
+
 /* K8, K9, K10 and K11 of the specification. */
 static void forests_and_texts(void) {
     static const uint32_t aabb[] = {'a', 'a', 'b', 'b'}, left_first[] = {0, 0, 1, 0}, left_past[] = {0, 3, 3, 4};
@@ -423,6 +465,8 @@ int main(void) {
     inside_a_store();
     factors_and_comparisons();
     in_default_order();
+    texts_in_infinite_order();
+    prefixes_in_infinite_order();
     forests_and_texts();
     of_a_record();
     printf("%u calls\n", calls);

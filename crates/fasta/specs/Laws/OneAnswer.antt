@@ -10,7 +10,7 @@ use Rattle.answer.specs.declared.Outcome.{Outcome}
 use Rattle.answer.specs.declared.Outcome.the-variants.{Accepted, Refused}
 use Rattle.answer.specs.declared.Reason.{Reason}
 use Rattle.answer.specs.declared.Reason.the-variants.{EmptyText, TextTooLong, UnknownOrder, WrongTable, ShortOutput, ShortWork, ZeroEntry, CrossingSpans}
-use Rattle.answer.specs.declared.Reason.the-variants.{NoHeader, BadName, UnfitByte, NoLetters, FileTooLong, UnknownTable, UnwrittenTable}
+use Rattle.answer.specs.declared.Reason.the-variants.{NoHeader, BadName, UnfitByte, NoLetters, FileTooLong, NotLyndon, UnknownTable, UnwrittenTable}
 use Rattle.fasta_record.specs.Bytes.{headerMark}
 use Rattle.fasta.specs.Rows.{HeaderEnds, LineStart, UnfitAt, other-byte, return-alone, mark-inside, sequenceLetters}
 use Rattle.fasta.specs.Rows.{LineRow, unfit-byte, second-record, letter-too-many, no-header, bad-name, in-lines, no-letters}
@@ -25,8 +25,8 @@ use Rattle.fasta.specs.Laws.RecordRows.{line-pass}
 passReason : ℕ → Reason
 passReason n =
     getD
-    (EmptyText ∷ UnknownTable ∷ UnwrittenTable ∷ EmptyText ∷ TextTooLong ∷ UnknownOrder ∷ WrongTable ∷ ShortOutput ∷ ShortWork ∷ ZeroEntry ∷ CrossingSpans ∷
-    FileTooLong ∷ NoHeader ∷ BadName ∷ UnfitByte ∷ NoLetters ∷ [])
+    (EmptyText ∷ UnknownTable ∷ UnwrittenTable ∷ EmptyText ∷ TextTooLong ∷ UnknownOrder ∷ WrongTable ∷ ShortOutput ∷ NotLyndon ∷ ShortWork ∷ ZeroEntry ∷
+    CrossingSpans ∷ FileTooLong ∷ NoHeader ∷ BadName ∷ UnfitByte ∷ NoLetters ∷ [])
     n EmptyText
 
 module _ (x : List ℕ) {p : ℕ} where

@@ -124,21 +124,33 @@ module _ {ℓ} {B : Type ℓ} where
       back w b m (inr k) = k
 
 -- The numbers below m, downwards.
-abbrev numbersBelow : ℕ → List ℕ
+abbrev pub numbersBelow : ℕ → List ℕ
 numbersBelow zero = []
 numbersBelow (suc m) = m ∷ numbersBelow m
 
-numbersBelow-length : (m : ℕ) → length (numbersBelow m) ≡ m
+pub numbersBelow-length : (m : ℕ) → length (numbersBelow m) ≡ m
 numbersBelow-length zero = refl
 numbersBelow-length (suc m) = ap suc (numbersBelow-length m)
 
-numbersBelow-holds : (m k : ℕ) → k < m → List·Memᴰ k (numbersBelow m)
+pub numbersBelow-holds : (m k : ℕ) → k < m → List·Memᴰ k (numbersBelow m)
 numbersBelow-holds zero k l = absurd (omega arith)
 numbersBelow-holds (suc m) k l = go (numbersBelow-holds m k) (ℕ-discrete k m)
   where
     go : (k < m → List·Memᴰ k (numbersBelow m)) → Dec (k ≡ m) → List·Memᴰ k (m ∷ numbersBelow m)
     go f (yes e) = List·Memᴰ·head e
     go f (no e) = List·Memᴰ·tail (f (omega arith))
+
+pub numbersBelow-below : (m k : ℕ) → List·Memᴰ k (numbersBelow m) → k < m
+numbersBelow-below zero k l = absurd (List·Memᴰ·not-nil l)
+numbersBelow-below (suc m) k l = go (numbersBelow-below m k) (List·Memᴰ·cases-cons l)
+  where
+    go : (List·Memᴰ k (numbersBelow m) → k < m) → (k ≡ m) ⊎ List·Memᴰ k (numbersBelow m) → k < suc m
+    go f (inl e) = omega arith
+    go f (inr h) = omega (arith, f h)
+
+pub numbersBelow-different : (m : ℕ) → Different (numbersBelow m)
+numbersBelow-different zero = tt
+numbersBelow-different (suc m) = (λ l. omega (arith, numbersBelow-below m m l), numbersBelow-different m)
 
 module _ {ℓ κ} {B : Type ℓ} (Mark : B → ℕ → Type κ) (one : (b c : B) (k : ℕ) → Mark b k → Mark c k → b ≡ c) where
   abbrev markList : (bs : List B) → ((b : B) → List·Memᴰ b bs → (k : ℕ) × Mark b k) → List ℕ

@@ -1,7 +1,7 @@
 -- Different runs of a text are fewer than its letters, of whatever kind these are. Where it is decided which letters are equal, numbers may stand
 -- for them, and numbers are compared; that it is decided cannot be refuted, and the claim is one about two numbers.
 -- Assumes nothing.
-use mathlib.Core.List.{List, [], _∷_, List·Memᴰ}
+use mathlib.Core.List.{List, List·Memᴰ}
 use Prim.Native.Nat.{ℕ, _<_}
 use native.Mathlib.Omega.{arith}
 use native.Mathlib.Decide.{decLt}
@@ -9,18 +9,14 @@ use lib.ListN.{length}
 use Rattle.words.specs.Letters.{rising}
 use Rattle.words.specs.Decided.{decided-rising}
 use Rattle.words.specs.Different.{Different}
-use Rattle.words.specs.Runs.{SameLetter, Entry, Sorted, IsRun, IsRunList}
+use Rattle.words.specs.Runs.{SameLetter, Entry, Earlier, IsRun, IsRunList}
 use Rattle.words.specs.Laws.Compared.{decided-compared}
 use Rattle.words.specs.Laws.Runs.{earlier-not-both}
+use Rattle.words.specs.Laws.Sorted.{sorted-different}
 use Rattle.words.specs.Laws.RunExistence.{letters-numbered, equalities-irrefutable}
 use Rattle.words.specs.Laws.RunMarks.{compared-fewer}
 use Rattle.words.specs.Laws.RunRenaming.{run-carried}
 use Rattle.words.specs.Laws.SpanLyndon.{letters}
-
--- A sorted list of entries holds none twice.
-sorted-different : (rs : List Entry) → Sorted rs → Different rs
-sorted-different [] s = tt
-sorted-different (r ∷ rs) s = (λ m. earlier-not-both r r (s .0 r m) (s .0 r m), sorted-different rs (s .1))
 
 module _ {ℓ} {A : Type ℓ} (x : List A) (pos : 0 < length x) where
   -- Different runs.
@@ -43,4 +39,4 @@ module _ {ℓ} {A : Type ℓ} (x : List A) (pos : 0 < length x) where
 
   -- The runs of a run list.
   pub run-list-fewer : (rs : List Entry) → IsRunList x rs → length rs < length x
-  run-list-fewer rs h = runs-fewer rs (sorted-different rs (h .sorted)) (h .sound)
+  run-list-fewer rs h = runs-fewer rs (sorted-different Earlier earlier-not-both rs (h .sorted)) (h .sound)

@@ -1,0 +1,4 @@
+pub mod Comparing
+pub mod Answering
+pub mod SortingLaws
+pub mod Reading

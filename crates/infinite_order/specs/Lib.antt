@@ -1,0 +1,5 @@
+pub mod Answers
+pub mod CompareTheorems
+pub mod PrefixTheorems
+pub mod Sorting
+pub mod Results
