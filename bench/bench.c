@@ -177,7 +177,7 @@ static void arrays(int f, size_t n) {
     if (f == 3) numbers[n - 1] = 2;
 }
 
-/* Lyndon words. What is a power of a shorter word, as (ab)^k is and a^(m-1) b a^m b at an even length, is refused. */
+/* Lyndon words, of families their least rotations. */
 static void words(int w, size_t n) { word_fill(w, text, n); }
 static void pairs(int p, size_t n) { other_length = pair_fill(p, text, other_text, n); }
 static void records(int r, size_t n) { record_fill(r, text, n); }
@@ -238,7 +238,7 @@ static struct result table(const struct call *call) {
         double growth = mine[2] / mine[0], ratio = mine[2] / other[2];
         if (f == 0) first_input = mine[2], result.first_ratio = ratio;
         if (growth > result.growth) result.growth = growth, result.growth_input = call->input(f);
-        /* What takes less than a microsecond in all the clock does not tell well enough. */
+        /* Times under a microsecond are too short for the clock. */
         if (ratio > result.ratio && mine[2] * (double)call->sizes[2] > 1000) result.ratio = ratio, result.ratio_input = call->input(f);
         if (call->fill == texts && family_natural(f) && ratio > result.natural_ratio) result.natural_ratio = ratio;
         if (mine[2] / first_input > result.slowest) result.slowest = mine[2] / first_input, result.slowest_input = call->input(f);

@@ -108,7 +108,7 @@ static void arrays(int f, size_t n) {
     family_fill(f, text, n);
     lyndon_array_u8(text, n, LYNDON_RISING, numbers, n);
 }
-static void words(int f, size_t n) { word_fill(f, text, n); }
+static void words(int f, size_t n) { rotation_fill(f, text, n); }
 static void records(int r, size_t n) { record_fill(r, text, n); }
 
 struct call {

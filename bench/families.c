@@ -99,23 +99,24 @@ static void turned(uint8_t *t, size_t n, uint8_t sum) { for (size_t i = 0; i < n
 static void hard_a_turned(uint8_t *t, size_t n) { hard_a(t, n); turned(t, n, 'a' + 'b'); }
 static void hard_ab_turned(uint8_t *t, size_t n) { hard_ab(t, n); turned(t, n, 'a' + 'c'); }
 
-static const struct { const char *name; void (*fill)(uint8_t *, size_t); int natural; } families[] = {
-    {"random DNA", random_dna, 1},
-    {"random bytes", random_bytes, 1},
-    {"DNA, gaps, tandem repeats", gaps_and_repeats, 1},
-    {"equal letters", equal_letters, 0},
-    {"a^n b", an_b, 0},
-    {"(ab)^k", ab_k, 0},
-    {"Fibonacci", fibonacci, 0},
-    {"Thue-Morse", thue_morse, 0},
-    {"Zimin", zimin, 0},
-    {"w^k c w^m d", two_powers, 0},
-    {"a^(m-1) b a^m b", hard_a, 0},
-    {"b^(m-1) a b^m a", hard_a_turned, 0},
-    {"(ab)^k cb (ab)^k c", hard_ab, 0},
-    {"(cb)^k ab (cb)^k a", hard_ab_turned, 0},
-    {"b^m d b^m a b c", agreeing, 0},
-    {"((ab^63)^8 z (ab^63)^8 A)^k", long_agreement, 0},
+/* power: at an even length it is a power of a shorter word, and so is each rotation */
+static const struct { const char *name; void (*fill)(uint8_t *, size_t); int natural, power; } families[] = {
+    {"random DNA", random_dna, 1, 0},
+    {"random bytes", random_bytes, 1, 0},
+    {"DNA, gaps, tandem repeats", gaps_and_repeats, 1, 0},
+    {"equal letters", equal_letters, 0, 1},
+    {"a^n b", an_b, 0, 0},
+    {"(ab)^k", ab_k, 0, 1},
+    {"Fibonacci", fibonacci, 0, 0},
+    {"Thue-Morse", thue_morse, 0, 0},
+    {"Zimin", zimin, 0, 0},
+    {"w^k c w^m d", two_powers, 0, 0},
+    {"a^(m-1) b a^m b", hard_a, 0, 1},
+    {"b^(m-1) a b^m a", hard_a_turned, 0, 1},
+    {"(ab)^k cb (ab)^k c", hard_ab, 0, 0},
+    {"(cb)^k ab (cb)^k a", hard_ab_turned, 0, 0},
+    {"b^m d b^m a b c", agreeing, 0, 0},
+    {"((ab^63)^8 z (ab^63)^8 A)^k", long_agreement, 0, 0},
 };
 
 int family_count(void) { return (int)(sizeof families / sizeof families[0]); }
@@ -175,15 +176,28 @@ static const struct { const char *name; void (*fill)(uint8_t *, size_t); } words
     {"a, Fibonacci, c", a_fibonacci_c},
 };
 
-int word_count(void) { return family_count() + (int)(sizeof words / sizeof words[0]); }
-const char *word_name(int w) { return w < family_count() ? family_name(w) : words[w - family_count()].name; }
-void word_fill(int w, uint8_t *text, size_t n) {
-    if (w >= family_count()) {
-        words[w - family_count()].fill(text, n);
-        return;
-    }
-    family_fill(w, text, n);
+/* The family whose least rotation is word w, or -1 for one made by hand. */
+static int rotated(int w) {
+    for (int f = 0; f < family_count(); f++)
+        if (!families[f].power && w-- == 0) return f;
+    return -1;
+}
+static int rotations(void) {
+    int count = 0;
+    while (rotated(count) >= 0) count++;
+    return count;
+}
+
+void rotation_fill(int f, uint8_t *text, size_t n) {
+    family_fill(f, text, n);
     rotate_least(text, n);
+}
+
+int word_count(void) { return rotations() + (int)(sizeof words / sizeof words[0]); }
+const char *word_name(int w) { return rotated(w) < 0 ? words[w - rotations()].name : family_name(rotated(w)); }
+void word_fill(int w, uint8_t *text, size_t n) {
+    if (rotated(w) < 0) words[w - rotations()].fill(text, n);
+    else rotation_fill(rotated(w), text, n);
 }
 
 static size_t equal_texts(uint8_t *u, uint8_t *v, size_t n) { random_dna(u, n); memcpy(v, u, n); return n; }

@@ -11,8 +11,11 @@ int family_count(void);
 /* 1 for families as they occur in nature, 0 for hard ones made by hand. */
 int family_natural(int f);
 
-/* Fills text with n letters, the least rotation of family w: a Lyndon word where it is no power of a shorter word. Behind the families come
- * Lyndon words made by hand, of at least 4 letters. */
+/* Fills text with n letters, the least rotation of family f: a Lyndon word where it is no power of a shorter word. */
+void rotation_fill(int f, uint8_t *text, size_t n);
+
+/* Fills text with n letters, a Lyndon word where n is even and at least 4: the least rotations of the families that are no powers then, and
+ * words made by hand. */
 void word_fill(int w, uint8_t *text, size_t n);
 const char *word_name(int w);
 int word_count(void);

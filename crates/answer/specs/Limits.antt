@@ -27,6 +27,10 @@ maxRuns n = n - 1
 abbrev pub runListLength : ℕ → ℕ
 runListLength n = 3 * maxRuns n
 
+-- A word of n letters has so many proper non-empty prefixes, for each of which the prefix permutation needs a place (document 02, E5; refusal 4).
+abbrev pub prefixCount : ℕ → ℕ
+prefixCount n = n - 1
+
 -- The length that the work buffer of the runs needs ("Places needed", refusal 5).
 abbrev pub workLength : ℕ → ℕ
 workLength n = 2 * n

@@ -1,8 +1,8 @@
 -- Checks one after the other, what they make of the answer, and what is known where they pass.
 -- Assumes nothing.
-use mathlib.Core.Path.{_≡_, refl, sym, ap, subst, _∙_}
+use mathlib.Core.Path.{_≡_, refl, sym, ap, _∙_}
 use mathlib.Core.Bool.{Bool, true, false, not, _&&_}
-use Prim.Native.Nat.{ℕ, zero, suc, _-_, _<_, _≤_}
+use Prim.Native.Nat.{ℕ, zero, suc, _<_, _≤_}
 use native.Mathlib.Omega.{arith}
 use borrow.Author.Tests.{lt-ltb, le-ltb, eq-eqb, ne-eqb, ltb-false, eqb-true, eqb-false, not-false}
 use lib.Dec.{ltb, eqb}
@@ -14,7 +14,7 @@ use Rattle.answer.specs.declared.Reason.the-variants.{EmptyText, TextTooLong, U
 use Rattle.checks.specs.declared.Check.{Check}
 use Rattle.checks.specs.declared.Check.the-variants.{Passed, Failed}
 use Rattle.answer.specs.Answers.{acceptedWith, refusedFor, refusedIf, accepted-apart}
-use Rattle.answer.specs.Limits.{Sized, maxLength, maxLetters, maxInput, runListLength, workLength, rankedOrder, tableLength}
+use Rattle.answer.specs.Limits.{Sized, maxLength, maxLetters, maxInput, runListLength, prefixCount, workLength, rankedOrder, tableLength}
 use Rattle.checks.specs.Checks.{emptyChecked, limitChecked, lengthChecked, orderChecked, outputChecked, workChecked, inputChecked, textChecked}
 use Rattle.checks.specs.Checks.{orderedTextChecked, forestChecked, runsChecked, readerChecked, answerTo, Adds}
 use Rattle.checks.specs.Checks.{tableChecked, rankedChecked, rankedTextChecked, rankedForestChecked, rankedRunsChecked, usesTable}
@@ -25,13 +25,10 @@ pub then : {earlier mid now : Check} {check further : Answer → Answer} → Add
     Adds earlier now (λ rest. check (further rest))
 then {further = further} a b = record { answer = λ rest. b .answer rest ∙ a .answer (further rest) }
 
--- The length, the places and the text itself, one after the other, where the places needed and what was found of the text are as stated.
-pub lyndon-word-adds : {c₁ c₂ c₃ : Check} {needed : ℕ} {held : Bool} (n given : ℕ) (holds : Bool) → needed ≡ n - 1 → held ≡ holds →
-    Adds Passed c₁ (lengthChecked maxLength n) → Adds c₁ c₂ (outputChecked needed given) → Adds c₂ c₃ (lyndonChecked held) →
-    Adds Passed c₃ (lyndonWordChecked n given holds)
-lyndon-word-adds {c₁} {c₂} {c₃} n given holds e f a b c =
-    then a
-    (then (subst (λ (k : ℕ). Adds c₁ c₂ (outputChecked k given)) e b) (subst (λ (h : Bool). Adds c₂ c₃ (lyndonChecked h)) f c))
+-- The length, the places and the text itself, one after the other.
+pub lyndon-word-adds : {c₁ c₂ c₃ : Check} (n given : ℕ) (holds : Bool) → Adds Passed c₁ (lengthChecked maxLength n) →
+    Adds c₁ c₂ (outputChecked (prefixCount n) given) → Adds c₂ c₃ (lyndonChecked holds) → Adds Passed c₃ (lyndonWordChecked n given holds)
+lyndon-word-adds n given holds a b c = then a (then b c)
 
 module _ {now : Check} {check : Answer → Answer} (all : Adds Passed now check) (rest : Answer) where
   -- Checks that pass leave what follows.
@@ -118,21 +115,12 @@ module _ {now : Check} where
         record { some = omega (arith, eqb-false n 0 (both-some .0)); short = ltb-false maxLength n (both-short .0) },
       )
 
-  prefixed-passed : (n given : ℕ) (check : Answer → Answer) → Adds Passed now (λ rest. prefixesChecked n given (check rest)) → now ≡ Passed →
-      Sized n × (n - 1 ≤ given) × (check (acceptedWith 0) ≡ acceptedWith 0)
-  prefixed-passed n given check all e =
-      let sized = sized-passed n (λ rest. outputChecked (n - 1) given (check rest)) all e in
-      let room = output-cleared (check (acceptedWith 0)) (n - 1) given (sized .1) in
-      (sized .0, room .0, room .1)
-
-  pub prefixes-passed : (n given : ℕ) → Adds Passed now (prefixesChecked n given) → now ≡ Passed → Sized n × (n - 1 ≤ given)
-  prefixes-passed n given all e = let known = prefixed-passed n given (λ rest. rest) all e in (known .0, known .1)
-
   pub lyndon-word-passed : (n given : ℕ) (holds : Bool) → Adds Passed now (lyndonWordChecked n given holds) → now ≡ Passed →
-      Sized n × (n - 1 ≤ given) × (holds ≡ true)
+      Sized n × (prefixCount n ≤ given) × (holds ≡ true)
   lyndon-word-passed n given holds all e =
-      let known = prefixed-passed n given (lyndonChecked holds) all e in
-      (known .0, known .1, lyndon-cleared (acceptedWith 0) holds (known .2) .0)
+      let sized = sized-passed n (λ rest. outputChecked (prefixCount n) given (lyndonChecked holds rest)) all e in
+      let in-list = output-cleared (lyndonChecked holds (acceptedWith 0)) (prefixCount n) given (sized .1) in
+      (sized .0, in-list .0, lyndon-cleared (acceptedWith 0) holds (in-list .1) .0)
 
   pub ordered-text-passed : (n order given : ℕ) → Adds Passed now (orderedTextChecked n order given) → now ≡ Passed →
       Sized n × (order ≤ 1) × (n ≤ given)
@@ -218,8 +206,8 @@ module _ (n : ℕ) (sized : Sized n) where
     pub text-passes : (given : ℕ) → n ≤ given → textChecked n given rest ≡ rest
     text-passes given room = array-passes _ ∙ output-passes rest n given room
 
-    pub prefixes-passes : (given : ℕ) → n - 1 ≤ given → prefixesChecked n given rest ≡ rest
-    prefixes-passes given room = array-passes _ ∙ output-passes rest (n - 1) given room
+    pub prefixes-passes : (given : ℕ) → prefixCount n ≤ given → prefixesChecked n given rest ≡ rest
+    prefixes-passes given room = array-passes _ ∙ output-passes rest (prefixCount n) given room
 
     pub ordered-text-passes : (order given : ℕ) → order ≤ 1 → n ≤ given → orderedTextChecked n order given rest ≡ rest
     ordered-text-passes order given named room = array-passes _ ∙ order-passes _ 1 order named ∙ output-passes rest n given room

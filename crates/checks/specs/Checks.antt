@@ -2,7 +2,7 @@
 -- Assumes nothing.
 use mathlib.Core.Path.{_≡_}
 use mathlib.Core.Bool.{Bool, true, not, _&&_}
-use Prim.Native.Nat.{ℕ, _-_}
+use Prim.Native.Nat.{ℕ}
 use lib.Dec.{ltb, eqb}
 use Rattle.answer.specs.declared.Answer.{Answer}
 use Rattle.checks.specs.declared.Check.{Check}
@@ -10,7 +10,7 @@ use Rattle.checks.specs.declared.Check.the-variants.{Passed, Failed}
 use Rattle.answer.specs.declared.Reason.the-variants.{EmptyText, TextTooLong, UnknownOrder, ShortOutput, ShortWork, FileTooLong}
 use Rattle.answer.specs.declared.Reason.the-variants.{WrongTable, NotLyndon, UnknownTable, UnwrittenTable}
 use Rattle.answer.specs.Answers.{refusedFor, refusedIf}
-use Rattle.answer.specs.Limits.{maxLength, maxLetters, maxInput, runListLength, workLength, rankedOrder, tableLength}
+use Rattle.answer.specs.Limits.{maxLength, maxLetters, maxInput, runListLength, prefixCount, workLength, rankedOrder, tableLength}
 
 -- Refusal 1: a text or array of n letters or entries.
 abbrev pub emptyChecked : ℕ → Answer → Answer
@@ -72,9 +72,9 @@ orderedTextChecked n order given rest = lengthChecked maxLength n (orderChecked 
 abbrev pub twoTextsChecked : ℕ → ℕ → Answer → Answer
 twoTextsChecked m n rest = emptyChecked m (emptyChecked n (limitChecked maxLength m (limitChecked maxLength n rest)))
 
--- 1, 2 and 4: a call on n letters that needs one place fewer (document 02, E5).
+-- 1, 2 and 4: a call on a word of n letters that needs a place for each of its proper non-empty prefixes (document 02, E5).
 abbrev pub prefixesChecked : ℕ → ℕ → Answer → Answer
-prefixesChecked n given rest = lengthChecked maxLength n (outputChecked (n - 1) given rest)
+prefixesChecked n given rest = lengthChecked maxLength n (outputChecked (prefixCount n) given rest)
 
 -- 1, 2, 4 and 17: such a call on letters that must be a Lyndon word (document 02, E5).
 abbrev pub lyndonWordChecked : ℕ → ℕ → Bool → Answer → Answer

@@ -1,7 +1,6 @@
 // The limits of documents 01 and 02 that the calls share, named here and in the file `Limits` of `answer`. Nothing is assumed.
 ghost use mathlib.Core.Path.{_≡_};
-ghost use Prim.Native.Nat.{_-_};
-ghost use Rattle.answer.specs.Limits.{maxLetters};
+ghost use Rattle.answer.specs.Limits.{maxLetters, prefixCount};
 
 // The most letters of a text, or entries of an array.
 pub const MAX_LENGTH: usize = 1_048_576;
@@ -31,9 +30,9 @@ pub fn max_letters() -> usize
     MAX_LETTERS
 }
 
-// One fewer than n, and 0 for 0: a text of n letters has as many proper non-empty prefixes.
-pub fn one_fewer(n: usize) -> usize
-    ensures fewer { λ r. ⌜ r ≡ n - 1 ⌝ }
+// The proper non-empty prefixes of a word of n letters; none where n is 0.
+pub fn prefix_count(n: usize) -> usize
+    ensures count { λ r. ⌜ r ≡ prefixCount n ⌝ }
 {
     if n == 0 { 0 } else { n - 1 }
 }

@@ -4,11 +4,11 @@ use mathlib.Core.Path.{_≡_, refl, sym, ap, _∙_}
 use mathlib.Core.List.{List}
 use Prim.Native.Nat.{ℕ, zero, suc, _+_, _-_, _*_, _%_, _<_, _≤_}
 use native.Mathlib.Omega.{arith}
-use native.Mathlib.Decide.{decLt}
 use native.Mathlib.Nat.{mod-eq-of-lt, mod-eq-sub-mod, mod-self, mod-add-mod, mul-add-mod-self-right}
 use lib.ListN.{length, getD}
 use Rattle.words.specs.Letters.{Letters}
 use Rattle.words.specs.Decided.{Decided, Comparison, below, same, above}
+use Rattle.words.specs.Laws.Periods.{period-copies}
 use Rattle.words.specs.Laws.SpanLyndon.{letters}
 use Rattle.words.specs.Laws.Repetition.{Repetition, repetition-start}
 use Rattle.factors.specs.declared.scan.Scanned.{Scanned}
@@ -33,27 +33,11 @@ module _ {ℓ κ} {A : Type ℓ} (O : Letters {ℓ, κ} A) (x : ℕ → A) (h p 
   some : 0 < p
   some = omega (arith, r .lyndon .non-empty)
 
-  copy-letter : (most j : ℕ) → j ≤ most + h → h + p ≤ j → j ≤ e → x (j - p) ≡ x (h + (j - h) % p)
-  copy-letter zero j a b c = absurd (omega (arith, some))
-  copy-letter (suc most) j a b c = go (decLt (j - p) (h + p)) (copy-letter most (j - p))
-    where
-      back : (j - h) % p ≡ (j - p - h) % p
-      back =
-          let k : j - h - p ≡ j - p - h = omega arith in
-          mod-eq-sub-mod {n = j - h} {m = p} (omega arith) ∙ ap (λ (m : ℕ). m % p) k
-
-      go : Dec (j - p < h + p) → (j - p ≤ most + h → h + p ≤ j - p → j - p ≤ e → x (j - p - p) ≡ x (h + (j - p - h) % p)) →
-          x (j - p) ≡ x (h + (j - h) % p)
-      go (yes l) rest =
-          let k : j - p ≡ h + (j - h) % p = omega (arith, back, mod-eq-of-lt {n = j - p - h} {m = p} (omega arith)) in
-          ap x k
-      go (no l) rest =
-          let k : j - p ≡ j - p - p + p = omega arith in
-          ap x k ∙ sym (r .period (j - p - p) (omega arith) (omega (arith, some))) ∙ rest (omega (arith, some)) (omega arith) (omega arith) ∙
-          ap (λ (m : ℕ). x (h + m)) (sym back)
-
   pub first-copy : (j : ℕ) → h + p ≤ j → j ≤ e → x (j - p) ≡ x (h + (j - h) % p)
-  first-copy j b c = copy-letter j j (omega arith) b c
+  first-copy j b c =
+      let t : h + (j - h - p) ≡ j - p = omega arith in
+      ap x (sym t) ∙ sym (period-copies x h e p some (r .period) (j - h - p) (omega (arith, some))) ∙
+      ap (λ (m : ℕ). x (h + m)) (sym (mod-eq-sub-mod {n = j - h} {m = p} (omega arith)))
 
 module _ {ℓ κ} {A : Type ℓ} {O : Letters {ℓ, κ} A} (D : Decided O) (z : A) (x : List A) where
   -- i is the place in the first copy.

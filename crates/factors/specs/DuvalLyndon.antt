@@ -1,22 +1,19 @@
 -- Duval's scan from the start of a text stops with the whole text as its period exactly when the text is a Lyndon word.
 -- Assumes nothing.
-use mathlib.Core.Path.{_≡_, refl, sym, subst, _∙_}
+use mathlib.Core.Path.{_≡_, refl, subst}
 use mathlib.Core.Bool.{Bool, true, false}
 use mathlib.Core.List.{List}
 use Prim.Native.Nat.{ℕ, _+_, _<_, _≤_}
 use native.Mathlib.Omega.{arith}
-use native.Mathlib.Decide.{ℕ-discrete}
-use lib.Dec.{T, eqb}
+use lib.Dec.{eqb}
 use lib.ListN.{length}
-use lib.Seq.{take-length}
 use borrow.Author.Tests.{eq-eqb, ne-eqb}
 use Rattle.words.specs.Letters.{Letters}
 use Rattle.words.specs.Decided.{Decided}
-use Rattle.words.specs.Word.{span}
 use Rattle.words.specs.Lyndon.{Lyndon}
-use Rattle.words.specs.Compute.Lyndon.{lyndonb, lyndonb-lyndon, lyndon-lyndonb}
+use Rattle.words.specs.Compute.Lyndon.{lyndonb, lyndonb-true, lyndonb-false}
 use Rattle.words.specs.Laws.Position.{SpanLyndon}
-use Rattle.words.specs.Laws.SpanLyndon.{letters, lyndon-span, span-lyndon}
+use Rattle.words.specs.Laws.SpanLyndon.{letters, lyndon-text, text-lyndon}
 use Rattle.words.specs.Laws.SuffixOrder.{NextSmaller}
 use Rattle.words.specs.Laws.NextSmaller.{next-lyndon, lyndon-before-next}
 use Rattle.factors.specs.Duval.{scanOf}
@@ -24,20 +21,14 @@ use Rattle.factors.specs.DuvalSteps.{stretchOf}
 use Rattle.factors.specs.DuvalFactorization.{scan-stopped, stopped-next}
 
 module _ {ℓ κ} {A : Type ℓ} {O : Letters {ℓ, κ} A} (D : Decided O) (z : A) (x : List A) where
-  whole : span 0 (length x) x ≡ x
-  whole = take-length x
-
   -- The factor at the start is the whole text where it has its length, and the text is then a Lyndon word; no Lyndon word reaches past it.
   whole-lyndon : (p : ℕ) → NextSmaller O (letters z x) (length x) 0 p → p ≡ length x → Lyndon O x
   whole-lyndon p m e =
-      subst (Lyndon O) whole
-      (span-lyndon O z x 0 (length x) (omega arith)
-      (subst (λ (b : ℕ). SpanLyndon O (letters z x) 0 b) e (next-lyndon O (letters z x) (length x) 0 p m)))
+      text-lyndon O z x (subst (λ (b : ℕ). SpanLyndon O (letters z x) 0 b) e (next-lyndon O (letters z x) (length x) 0 p m))
 
   lyndon-whole : (p : ℕ) → NextSmaller O (letters z x) (length x) 0 p → Lyndon O x → p ≡ length x
   lyndon-whole p m w =
-      let s : SpanLyndon O (letters z x) 0 (length x) = lyndon-span O z x 0 (length x) (omega arith) (subst (Lyndon O) (sym whole) w) in
-      let l : length x ≤ p = lyndon-before-next O (letters z x) (length x) 0 (length x) p s (omega arith) m in
+      let l : length x ≤ p = lyndon-before-next O (letters z x) (length x) 0 (length x) p (lyndon-text O z x w) (omega arith) m in
       omega (arith, m .inside)
 
   -- The test by one scan is that of the definition.
@@ -53,5 +44,5 @@ module _ {ℓ κ} {A : Type ℓ} {O : Letters {ℓ, κ} A} (D : Decided O) (z : 
           (stopped-next O (letters z x) (length x) 0 (stretchOf (scanOf D z x 0 q)) (scan-stopped D z x 0 q l))
 
       go : (b : Bool) → lyndonb D x ≡ b → eqb p (length x) ≡ b
-      go true e = eq-eqb p (length x) (lyndon-whole p m (lyndonb-lyndon D x (subst T (sym e) tt)))
-      go false e = ne-eqb p (length x) (λ h. subst T e (lyndon-lyndonb D x (whole-lyndon p m h)))
+      go true e = eq-eqb p (length x) (lyndon-whole p m (lyndonb-true D x .0 e))
+      go false e = ne-eqb p (length x) (λ h. lyndonb-false D x .0 e (whole-lyndon p m h))

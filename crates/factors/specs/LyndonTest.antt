@@ -20,8 +20,8 @@ pub within-limit : (x : List ℕ) → length x ≤ maxLength → lyndonWithin x 
 within-limit x l = simp (le-ltb maxLength (length x) l)
 
 -- The word of document 02, E5, `abacabade`, passes the test; in the default order `aB` would, here it does not.
-pub word-of-e5 : lyndonWithin (97 ∷ 98 ∷ 97 ∷ 99 ∷ 97 ∷ 98 ∷ 97 ∷ 100 ∷ 101 ∷ []) ≡ true
-word-of-e5 = refl
+pub lower-case-word : lyndonWithin (97 ∷ 98 ∷ 97 ∷ 99 ∷ 97 ∷ 98 ∷ 97 ∷ 100 ∷ 101 ∷ []) ≡ true
+lower-case-word = refl
 
 pub capital-is-smaller : lyndonWithin (97 ∷ 66 ∷ []) ≡ false
 capital-is-smaller = refl

@@ -1,4 +1,4 @@
--- What holds at each turn of the loop that compares endless copies, and how a position in a text is read round and round.
+-- What holds at each turn of the loop that compares endless copies, and the position that goes back to the start behind the last.
 -- Assumes nothing.
 use mathlib.Core.Path.{_≡_, refl, sym, ap, subst, _∙_}
 use mathlib.Core.List.{List}

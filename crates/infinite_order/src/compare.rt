@@ -19,13 +19,6 @@ fn next(i: usize, n: usize) -> usize
     if i + 1 == n { 0 } else { i + 1 }
 }
 
-// Two letters compared in rising order.
-fn compare_letters(a: u8, b: u8) -> Comparison
-    ensures answer { λ r. ⌜ r ≡ comparisonOf (compareNumbers a b) ⌝ }
-{
-    letters::compare(a as u32, b as u32, 0)
-}
-
 // Texts of m and n letters with the same endless copies: the longer is below.
 fn compare_lengths(m: usize, n: usize) -> Comparison
     requires { ⌜ Sized m ⌝ }
@@ -50,7 +43,7 @@ fn compare_copies(u: &[u8], v: &[u8]) -> Comparison
         let a = u[i];
         let b = v[j];
         if a != b {
-            return compare_letters(a, b);
+            return letters::compare_bytes(a, b, 0);
         }
         i = next(i, u.len());
         j = next(j, v.len());

@@ -51,7 +51,7 @@ pub fn compare(a: u32, b: u32, order: u32) -> Comparison
 }
 
 // The same question of two bytes.
-fn compare_bytes(a: u8, b: u8, order: u32) -> Comparison
+pub fn compare_bytes(a: u8, b: u8, order: u32) -> Comparison
     ensures answer { λ r. ⌜ r ≡ comparisonOf (decided-order order .compare a b) ⌝ }
 {
     compare(a as u32, b as u32, order)

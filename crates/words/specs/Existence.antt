@@ -4,9 +4,9 @@
 use Prim.Axiom.{LEM}
 use mathlib.Core.Path.{_≡_, sym, ap, _∙_}
 use mathlib.Core.Logic.{∥∥₁-prop}
-use mathlib.Core.List.{List, [], _∷_, List·Memᴰ, List·Memᴰ·head, List·Memᴰ·tail}
+use mathlib.Core.List.{List, [], _∷_, List·Memᴰ}
 use mathlib.Core.Option.{some, Option·some-injective}
-use Prim.Native.Nat.{ℕ, zero, suc, _<_}
+use Prim.Native.Nat.{ℕ, _<_}
 use native.Mathlib.Omega.{arith}
 use lib.ListN.{length}
 use Rattle.words.specs.Letters.{Letters}
@@ -18,6 +18,7 @@ use Rattle.words.specs.ExactlyOne.{ExactlyOne, NeitherTwoNorNone, Buffer
 use Rattle.words.specs.ExactlyOne.{suffix-table-for-all, right-forest-for-all, left-forest-for-all, run-list-for-all}
 use Rattle.words.specs.Laws.Letters.{Compared}
 use Rattle.words.specs.Laws.Lyndon.{LyndonTest}
+use Rattle.words.specs.Laws.Members.{position-member}
 use Rattle.words.specs.Laws.SpanLyndon.{letters}
 use Rattle.words.specs.Laws.Periods.{getElem?-letter}
 use Rattle.words.specs.Laws.Existence.{empty-test, compared-test, tested-array, tested-factorization, tested-suffix-table, tested-right-forest, tested-left-forest}
@@ -31,12 +32,6 @@ LettersCompared {A = A} O x = (a b : A) → List·Memᴰ a x → List·Memᴰ b 
 abbrev pub LettersDecided {ℓ} : {A : Type ℓ} → List A → Type ℓ
 LettersDecided {A = A} x = (a b : A) → List·Memᴰ a x → List·Memᴰ b x → Dec (a ≡ b)
 
--- The letter at a position of the text is one of its letters.
-letter-member {ℓ} : {A : Type ℓ} (z : A) (x : List A) (i : ℕ) → i < length x → List·Memᴰ (letters z x i) x
-letter-member z [] i h = absurd (omega arith)
-letter-member z (c ∷ x) zero h = List·Memᴰ·head (λ i. c)
-letter-member z (c ∷ x) (suc i) h = List·Memᴰ·tail (letter-member z x i (omega arith))
-
 -- A value that has the property is the only one.
 only-one {μ ν} : {B : Type μ} {P : B → Type ν} → NeitherTwoNorNone P → (b : B) × P b → (b : B) × ExactlyOne P b
 only-one never-two p = (p .0, record { holds = p .1; only = λ b h. never-two .not-two b (p .0) h (p .1) })
@@ -49,7 +44,7 @@ module _ {ℓ κ} {A : Type ℓ} (O : Letters {ℓ, κ} A) (x : List A) (compare
       go [] c = empty-test O
       go (z ∷ y) c =
           compared-test O z (z ∷ y)
-          (λ i j h l. c (letters z (z ∷ y) i) (letters z (z ∷ y) j) (letter-member z (z ∷ y) i h) (letter-member z (z ∷ y) j l))
+          (λ i j h l. c (letters z (z ∷ y) i) (letters z (z ∷ y) j) (position-member z (z ∷ y) i h) (position-member z (z ∷ y) j l))
 
   -- The text has exactly one Lyndon array.
   pub compared-array : (a : List ℕ) × ExactlyOne (IsLyndonArray O x) a
@@ -82,7 +77,7 @@ decided-runs {A = A} x decided = only-one (run-list-for-all x) (decided-run-list
     at : (y : List A) → LettersDecided y → (i j : ℕ) → i < length y → j < length y → Dec (SameLetter y i j)
     at [] c i j h l = absurd (omega arith)
     at (z ∷ y) c i j h l =
-        go (c (letters z (z ∷ y) i) (letters z (z ∷ y) j) (letter-member z (z ∷ y) i h) (letter-member z (z ∷ y) j l))
+        go (c (letters z (z ∷ y) i) (letters z (z ∷ y) j) (position-member z (z ∷ y) i h) (position-member z (z ∷ y) j l))
       where
         go : Dec (letters z (z ∷ y) i ≡ letters z (z ∷ y) j) → Dec (SameLetter (z ∷ y) i j)
         go (yes e) = yes (getElem?-letter z (z ∷ y) i h ∙ ap some e ∙ sym (getElem?-letter z (z ∷ y) j l))
@@ -90,7 +85,7 @@ decided-runs {A = A} x decided = only-one (run-list-for-all x) (decided-run-list
             no (λ e. n (Option·some-injective _ _ (sym (getElem?-letter z (z ∷ y) i h) ∙ e ∙ getElem?-letter z (z ∷ y) j l)))
 
 -- By excluded middle there is exactly one of whatever there are never two and never none: of the array, the factorization, the suffix
--- table, the forests and the run list of every text over letters of any kind (`..-for-all` of ExactlyOne).
+-- table, the forests, the run list and the prefix standard permutation of every text over letters of any kind (`..-for-all` of ExactlyOne).
 pub by-excluded-middle {μ ν} : LEM {μ ⊔ ν} → {B : Type μ} {P : B → Type ν} → NeitherTwoNorNone P → ∥ ((b : B) × ExactlyOne P b) ∥₁
 by-excluded-middle lem {B = B} {P = P} neither = go (lem ∥ ((b : B) × ExactlyOne P b) ∥₁ ∥∥₁-prop)
   where

@@ -19,6 +19,7 @@ pub mod ForestUnique
 pub mod StandardFactorization
 pub mod ForestPositions
 pub mod ForestRecords
+pub mod Members
 pub mod Sorted
 pub mod Runs
 pub mod LargerPeriods

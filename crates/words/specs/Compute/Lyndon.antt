@@ -63,6 +63,21 @@ module _ {ℓ κ} {A : Type ℓ} {O : Letters {ℓ, κ} A} (D : Decided O) where
   pub lyndonb-holds : (w : List A) → T (lyndonb D w) ↔ Lyndon O w
   lyndonb-holds w = (lyndonb-lyndon w, lyndon-lyndonb w)
 
+  -- It is true of Lyndon words, and false of all others.
+  pub lyndonb-true : (w : List A) → (lyndonb D w ≡ true) ↔ Lyndon O w
+  lyndonb-true w = (λ e. lyndonb-lyndon w (rw e tt), λ l. go (lyndonb D w) (lyndon-lyndonb w l))
+    where
+      go : (b : Bool) → T b → b ≡ true
+      go true t = refl
+      go false t = absurd t
+
+  pub lyndonb-false : (w : List A) → (lyndonb D w ≡ false) ↔ (¬ Lyndon O w)
+  lyndonb-false w = (λ e l. rw e at (lyndon-lyndonb w l), λ n. go (lyndonb D w) refl n)
+    where
+      go : (b : Bool) → lyndonb D w ≡ b → ¬ Lyndon O w → b ≡ false
+      go true e n = absurd (n (lyndonb-true w .0 e))
+      go false e n = refl
+
 -- The test as one of the spans of a text.
 abbrev pub lyndon-test {ℓ κ} : {A : Type ℓ} {O : Letters {ℓ, κ} A} → Decided O → (x : List A) → LyndonTest O x
 lyndon-test D x = record { test = λ a b. lyndonb D (span a b x); right = λ a b h. lyndonb-holds D (span a b x) }

@@ -287,19 +287,19 @@ module _ {ℓ κ} {A : Type ℓ} (O : Letters {ℓ, κ} A) where
 
   -- Each answer is given exactly where it holds.
   module _ (D : Decided O) (z : A) (u v : List A) (p : 0 < length u) (q : 0 < length v) where
-    given : (c : Comparison) → (compareInfinite D z u v ≡ c) ↔ InfiniteMeans O c u v
-    given c =
+    pub compares-as : (c : Comparison) → (compareInfinite D z u v ≡ c) ↔ InfiniteMeans O c u v
+    compares-as c =
         let m = compareInfinite-holds D z u v p q in
         (λ e. subst (λ (d : Comparison). InfiniteMeans O d u v) e m, λ n. infinite-one-answer (compareInfinite D z u v) c u v m n)
 
     -- Below: u is before v.
     pub compares-below : (compareInfinite D z u v ≡ below) ↔ InfiniteLess O u v
-    compares-below = given below
+    compares-below = compares-as below
 
     -- Same: the words are equal.
     pub compares-same : (compareInfinite D z u v ≡ same) ↔ (u ≡ v)
-    compares-same = (λ e. given same .0 e .lower, λ e. given same .1 (record { lower = e }))
+    compares-same = (λ e. compares-as same .0 e .lower, λ e. compares-as same .1 (record { lower = e }))
 
     -- Above: v is before u.
     pub compares-above : (compareInfinite D z u v ≡ above) ↔ InfiniteLess O v u
-    compares-above = given above
+    compares-above = compares-as above

@@ -3,8 +3,10 @@
 use mathlib.Core.Path.{_≡_, refl, sym, ap, _∙_}
 use mathlib.Core.List.{List, [], _∷_}
 use mathlib.Core.Option.{some, Option·some-injective}
-use Prim.Native.Nat.{ℕ, zero, suc, _+_, _<_, _≤_}
+use Prim.Native.Nat.{ℕ, zero, suc, _+_, _-_, _%_, _<_, _≤_}
 use native.Mathlib.Omega.{arith}
+use native.Mathlib.Decide.{decLt}
+use native.Mathlib.Nat.{mod-eq-of-lt, mod-eq-sub-mod}
 use lib.ListN.{length, getElem?}
 use Rattle.words.specs.Runs.{SameLetter, HasPeriod, Run}
 use Rattle.words.specs.Laws.SpanLyndon.{letters}
@@ -22,6 +24,32 @@ pub record SpanRun {ℓ} {A : Type ℓ} (x : ℕ → A) (n s e p : ℕ) : Type �
   pub smallest : (q : ℕ) → 0 < q → q < p → ¬ SpanPeriod x s e q
   pub no-left : (t : ℕ) → s ≡ suc t → ¬ (x t ≡ x (t + p))
   pub no-right : (t : ℕ) → e ≡ t + p → e < n → ¬ (x t ≡ x e)
+
+-- The letters of a span that has period p are those of its first p, over and over.
+pub period-copies {ℓ} : {A : Type ℓ} (x : ℕ → A) (s e p : ℕ) → 0 < p → SpanPeriod x s e p → (t : ℕ) → s + t < e → x (s + t % p) ≡ x (s + t)
+period-copies x s e p q r t l = below (suc t) t (omega arith) l
+  where
+    below : (fuel t : ℕ) → t < fuel → s + t < e → x (s + t % p) ≡ x (s + t)
+    below zero t f l = absurd (omega arith)
+    below (suc fuel) t f l = go (decLt t p) (below fuel (t - p))
+      where
+        go : Dec (t < p) → (t - p < fuel → s + (t - p) < e → x (s + (t - p) % p) ≡ x (s + (t - p))) → x (s + t % p) ≡ x (s + t)
+        go (yes m) rest = ap (λ (u : ℕ). x (s + u)) (mod-eq-of-lt m)
+        go (no m) rest =
+            let a : s + (t - p) + p ≡ s + t = omega (arith, m) in
+            ap (λ (u : ℕ). x (s + u)) (mod-eq-sub-mod {n = t} {m = p} (omega (arith, m))) ∙ rest (omega (arith, m)) (omega (arith, m)) ∙
+            r (s + (t - p)) (omega arith) (omega (arith, m)) ∙ ap x a
+
+-- A letter equal to the one p places before it continues the period.
+pub period-longer {ℓ} : {A : Type ℓ} (x : ℕ → A) (s e p i : ℕ) → SpanPeriod x s e p → i + p ≡ e → x i ≡ x e → SpanPeriod x s (suc e) p
+period-longer x s e p i r q h t a b = at (decLt (t + p) e)
+  where
+    at : Dec (t + p < e) → x t ≡ x (t + p)
+    at (yes l) = r t a l
+    at (no l) =
+        let u : t ≡ i = omega (arith, l) in
+        let v : e ≡ t + p = omega (arith, l) in
+        ap x u ∙ h ∙ ap x v
 
 pub getElem?-letter {ℓ} : {A : Type ℓ} (z : A) (x : List A) (i : ℕ) → i < length x → getElem? x i ≡ some (letters z x i)
 getElem?-letter z [] i h = absurd (omega arith)

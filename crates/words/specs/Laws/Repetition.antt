@@ -7,6 +7,7 @@ use native.Mathlib.Omega.{arith}
 use native.Mathlib.Decide.{decLt}
 use Rattle.words.specs.Letters.{Letters, Smaller}
 use Rattle.words.specs.Laws.Letters.{smaller-asym, smaller-trans}
+use Rattle.words.specs.Laws.Periods.{period-longer}
 use Rattle.words.specs.Laws.Position.{Agree, BelowWithin, SpanLyndon}
 use Rattle.words.specs.Laws.SuffixOrder.{SuffixLess, ends, parts, NextSmaller}
 use Rattle.words.specs.Laws.NextSmaller.{lyndon-next}
@@ -68,14 +69,7 @@ module _ {ℓ κ} {A : Type ℓ} (O : Letters {ℓ, κ} A) (x : ℕ → A) where
     -- A letter equal to the one a period before it continues the repetition.
     pub repetition-longer : (i : ℕ) → i + p ≡ e → x i ≡ x e → Repetition O x h p (suc e)
     repetition-longer i q s =
-        record { lyndon = r .lyndon; whole = omega (arith, r .whole); period = λ t a b. at t a b (decLt (t + p) e) }
-      where
-        at : (t : ℕ) → h ≤ t → t + p < suc e → Dec (t + p < e) → x t ≡ x (t + p)
-        at t a b (yes l) = r .period t a l
-        at t a b (no l) =
-            let u : t ≡ i = omega arith in
-            let v : e ≡ t + p = omega arith in
-            ap x u ∙ s ∙ ap x v
+        record { lyndon = r .lyndon; whole = omega (arith, r .whole); period = period-longer x h e p i (r .period) q s }
 
     below-extended : (i : ℕ) → i + p ≡ e → Smaller O (x i) (x e) → (fuel k : ℕ) → k ≤ fuel → h < k → k < suc e → BelowWithin O x h k (suc e)
     below-extended i q s zero k a b c = absurd (omega arith)

@@ -10,7 +10,7 @@ use Rattle.words.specs.Decided.{below}
 use Rattle.words.specs.Laws.Letters.{Compared}
 use Rattle.words.specs.Laws.Position.{BelowWithin, SpanLyndon}
 use Rattle.words.specs.Laws.Compared.{AllCompared}
-use Rattle.words.specs.Laws.Periods.{SpanRun}
+use Rattle.words.specs.Laws.Periods.{SpanRun, period-copies}
 use Rattle.words.specs.Laws.Rotations.{Primitive, LeastRotation, least-rotation, least-lyndon}
 
 -- Where p letters from i in x and from j in y on are the same, they are a Lyndon word in both or in none.
@@ -51,21 +51,8 @@ module _ {ℓ κ} {A : Type ℓ} (O : Letters {ℓ, κ} A) (x : ℕ → A) (n s 
   turning-repeats : (t : ℕ) → turning t ≡ turning (t + p)
   turning-repeats t = ap (λ (u : ℕ). x (s + u)) (sym (add-mod-right t p))
 
-  turning-is : (fuel t : ℕ) → t < fuel → s + t < e → x (s + t) ≡ turning t
-  turning-is zero t l h = absurd (omega arith)
-  turning-is (suc fuel) t l h = go (decLt t p) (λ a b. turning-is fuel (t - p) a b)
-    where
-      go : Dec (t < p) → (t - p < fuel → s + (t - p) < e → x (s + (t - p)) ≡ turning (t - p)) → x (s + t) ≡ turning t
-      go (yes a) rest = ap (λ (u : ℕ). x (s + u)) (sym (mod-eq-of-lt a))
-      go (no a) rest =
-          let q : 0 < p = r .positive in
-          let b : s + (t - p) + p ≡ s + t = omega (arith, a) in
-          let c : t - p + p ≡ t = omega (arith, a) in
-          sym (ap x b) ∙ sym (r .period (s + (t - p)) (omega arith) (omega (arith, a))) ∙
-          rest (omega (arith, a)) (omega (arith, a)) ∙ turning-repeats (t - p) ∙ ap turning c
-
   turning-at : (t : ℕ) → s + t < e → x (s + t) ≡ turning t
-  turning-at t h = turning-is (suc t) t (omega arith) h
+  turning-at t h = sym (period-copies x s e p (r .positive) (r .period) t h)
 
   turning-primitive : Primitive turning p
   turning-primitive = record { positive = r .positive; repeats = turning-repeats; no-sooner = sooner }

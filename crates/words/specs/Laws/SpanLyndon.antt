@@ -7,7 +7,7 @@ use Prim.Native.Nat.{ℕ, _+_, _-_, _<_, _≤_}
 use native.Mathlib.Omega.{arith}
 use native.Mathlib.Decide.{decLt}
 use lib.ListN.{length, getD, take, drop, length-append, length-drop, take-append-drop, drop-of-length-le}
-use lib.Seq.{getD-take, getD-drop, drop-drop, drop-append-seam, drop-append-le, take-take, length-take-le}
+use lib.Seq.{getD-take, getD-drop, drop-drop, drop-append-seam, drop-append-le, take-take, take-length, length-take-le}
 use Rattle.words.specs.Letters.{Letters, Smaller}
 use Rattle.words.specs.Word.{ProperPrefix, StronglyLess, Less, span}
 use Rattle.words.specs.Lyndon.{Lyndon}
@@ -123,3 +123,10 @@ module _ {ℓ κ} {A : Type ℓ} (O : Letters {ℓ, κ} A) (z : A) (x : List A) 
           let g = w .below k (omega arith) l in
           subst (λ (t : List A). Less O (span a b x) t) is
           (span-less a b k b h h (differs (g .offset) (omega arith) (g .inside) (g .agree) (g .smaller)))
+
+  -- The same of the text itself.
+  pub lyndon-text : Lyndon O x → SpanLyndon O (letters z x) 0 (length x)
+  lyndon-text w = lyndon-span 0 (length x) (omega arith) (subst (Lyndon O) (sym (take-length x)) w)
+
+  pub text-lyndon : SpanLyndon O (letters z x) 0 (length x) → Lyndon O x
+  text-lyndon w = subst (Lyndon O) (take-length x) (span-lyndon 0 (length x) (omega arith) w)

@@ -26,8 +26,8 @@ shared-slice-read-a c = search needs
 shared-slice-read-b : tie.Need-shared-slice-read-b Inv-loop μ-loop
 shared-slice-read-b c = search needs
 
-compare-letters-requires : tie.Need-compare-letters-requires Inv-loop μ-loop
-compare-letters-requires c κs = search needs
+compare-bytes-requires : tie.Need-compare-bytes-requires Inv-loop μ-loop
+compare-bytes-requires c κs = search needs
 
 returns : tie.Need-returns Inv-loop μ-loop
 returns c = search comparing-differs
@@ -63,7 +63,7 @@ compare-copies-spec =
     loop-holds
     shared-slice-read-a
     shared-slice-read-b
-    compare-letters-requires
+    compare-bytes-requires
     returns
     next-requires
     next-requires-2
