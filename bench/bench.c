@@ -284,8 +284,8 @@ int main(void) {
         {"left forest, ranked", 2, our_left_forest_ranked, their_left_forest_ranked, 0, texts, family_count(), family_name, TEXT_SIZES, 0},
         {"right forest", 0, our_right_forest, their_right_forest, 0, arrays, family_count() + 4, array_name, TEXT_SIZES, 2.5},
         {"reconstruct", 0, our_reconstruct, their_reconstruct, 0, arrays, family_count() + 4, array_name, TEXT_SIZES, 2.5},
-        {"compare infinite", 0, our_comparison, their_comparison, 0, pairs, pair_count(), pair_name, TEXT_SIZES, 2.5},
-        {"prefix permutation", 0, our_prefixes, their_prefixes, 0, words, word_count(), word_name, TEXT_SIZES, 2.5},
+        {"compare infinite", 0, our_comparison, their_comparison, 0, pairs, pair_count(), pair_name, TEXT_SIZES, 0},
+        {"prefix permutation", 0, our_prefixes, their_prefixes, 0, words, word_count(), word_name, TEXT_SIZES, 0},
         {"FASTA reader", 0, our_reader, their_reader, 0, records, record_count(), record_name, {1024, 2048, 4096}, 0},
     };
     int count = (int)(sizeof calls / sizeof calls[0]);

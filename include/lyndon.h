@@ -127,7 +127,7 @@ lyndon_answer lyndon_runs_ranked(const uint8_t *text, size_t n, const uint8_t *t
  * abaaba.. differs from abab.. at the fourth letter, then "abab", since it is longer than "ab", then "ab", then "abac". */
 
 /* Compares two texts of bytes in infinite order. The count says where u stands: 0 below v, 1 the same, which is so exactly where the two
- * texts are equal, 2 above v. No buffer is needed; |u| + |v| letters of each are compared at most. The texts may overlap, or be one.
+ * texts are equal, 2 above v. No buffer is needed. The texts may overlap, or be one.
  * Refusals 1 (either text), then 2 (either text): an empty one beside one that is too long is refused with 1. */
 lyndon_answer lyndon_compare_infinite(const uint8_t *u, size_t u_len, const uint8_t *v, size_t v_len);
 
@@ -135,7 +135,7 @@ lyndon_answer lyndon_compare_infinite(const uint8_t *u, size_t u_len, const uint
  * infinite order, the lowest prefix first. The word is a Lyndon word in rising order, by number, not in the default order: "Ba" is one, "aB"
  * is not. Of "aab" the prefix aa is below a, which is shorter, and out holds 1 0; of "abac" a is below aba, that is below ab, and out holds
  * 0 2 1. Needs n - 1 places; the count is n - 1. For one letter out may be empty, and the pointer null. For n = 0, which is refused with 1,
- * n - 1 would wrap: give the length that the buffer has. Takes time in proportion to n. Refusals 1, 2, 4, 17. */
+ * n - 1 would wrap: give the length that the buffer has. Refusals 1, 2, 4, 17. */
 lyndon_answer lyndon_prefix_permutation(const uint8_t *word, size_t n, uint32_t *out, size_t out_len);
 
 /* A store of rank tables for two groups of users, 1 and 2. A group has three tables of its own, 0 to 2, which its calls alone replace; in a
