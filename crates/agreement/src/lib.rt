@@ -2,6 +2,8 @@
 // bytes eight at a time and then one letter after another.
 //
 // Contracts cite `specs/CommonPrefix.antt`, `specs/Packed.antt` and the ranks of the crate `letters`. Nothing is assumed.
+#![tactic(auto)]
+
 ghost use Rattle.std.specs.Prelude.{◌≡◌, [], ◌∷◌, ◌+◌, ◌≤◌, min, length, take, drop};
 ghost use Rattle.letters.specs.Ranks.{rank_row};
 ghost use Rattle.agreement.specs.CommonPrefix.{common_prefix};

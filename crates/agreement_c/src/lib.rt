@@ -1,5 +1,7 @@
 // How far two words agree, exported to C for the benchmark and the tests alone: no part of the library.
 // A slice is a pointer and a length in C; that pointers are valid for their lengths is the C caller's part.
+#![tactic(auto)]
+
 ghost use Rattle.std.specs.Prelude.{◌≡◌};
 ghost use Rattle.letters.specs.Ranks.{rank_row};
 ghost use Rattle.agreement.specs.CommonPrefix.{common_prefix};

@@ -4,6 +4,8 @@
 // a caller outside the library is told of one.
 //
 // Contracts cite `specs/Reasons.antt` and `specs/Answers.antt`. Nothing is assumed.
+#![tactic(auto)]
+
 ghost use Rattle.std.specs.Prelude.{◌≡◌};
 ghost use Rattle.answer.specs.Reasons.{number_of};
 ghost use Rattle.answer.specs.Answers.{accepted_after, accepted_with, refused_for, number, value, comparisons};

@@ -5,6 +5,8 @@
 // of a factor remembers how far the factor agrees with what follows it and with its last part, and comparisons start there. The runs are
 // found in the same loop, once in each order (document 002, RUNS), each at its rightmost root; how far two suffixes agree behind the factors
 // compared is measured by the crate `agreement`. Contracts cite `specs/Calls.antt` and the definitions of the crate `words`. Nothing is assumed.
+#![tactic(auto)]
+
 pub mod bytes;
 mod joined;
 pub mod numbers;

@@ -1,5 +1,7 @@
 // BED lines and the line of a refusal, written at the start of a buffer. Each function returns how long they are.
 // Contracts cite `specs/Bed.antt` and `specs/Refusal.antt`. Nothing is assumed.
+#![tactic(auto)]
+
 mod lines;
 mod text;
 

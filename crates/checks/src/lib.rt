@@ -1,5 +1,7 @@
 // The checks that calls begin with: together for each kind of call, below one by one. A check takes what those before it say, and the first that
 // fails is kept. Contracts cite `specs/Checks.antt`. Nothing is assumed.
+#![tactic(auto)]
+
 pub mod limits;
 
 ghost use Rattle.answer.specs.Limits.{max_length, run_list_length, work_length};

@@ -2,6 +2,8 @@
 // the default order and in an order with a rank table, and the test whether a text is a Lyndon word. Public calls with no `requires`.
 //
 // Contracts cite `specs/Answers.antt` and the definitions of `words`. Nothing is assumed.
+#![tactic(auto)]
+
 pub mod factorization;
 pub mod lyndon;
 mod scan;

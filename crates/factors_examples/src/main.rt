@@ -2,6 +2,8 @@
 // examples of document 01, on inputs that are refused and on texts in mixed case; of the last the factor
 // list in order 0 too. A line shows an answer's number, value and comparisons, and then each place of a
 // buffer that held 99 everywhere.
+#![tactic(auto)]
+
 use answer::Answer;
 use libc::STDOUT_FILENO;
 

@@ -1,5 +1,7 @@
 // The FASTA reader: an input of one record, checked in the order of document 01's table, gives its letters and where its name ends.
 // Contracts cite `specs/Reader.antt`. Nothing is assumed.
+#![tactic(auto)]
+
 mod letters;
 
 ghost use Rattle.std.specs.Prelude.{◌≡◌, ◌≤◌, length};

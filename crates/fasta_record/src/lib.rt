@@ -1,5 +1,7 @@
 // One record of a FASTA input: its header, its name and its sequence lines, checked in the order of document 01's table.
 // Contracts cite `specs/Record.antt`. Nothing is assumed.
+#![tactic(auto)]
+
 pub mod bytes;
 pub mod lines;
 pub mod name;

@@ -3,6 +3,8 @@
 //
 // Contracts cite `specs/Answers.antt` and the definitions of `words`. What they say of texts over any ordered letters stands in
 // `specs/Theorems.antt`. Nothing is assumed.
+#![tactic(auto)]
+
 mod forest;
 mod mark;
 mod text;

@@ -1,6 +1,8 @@
 // The examples that document 01 works by hand of arrays alone: K8, K10, K11, K12, the three small
 // ones and the entry that 32 bits would not hold, each executed and matched. What is expected of a
 // call is proved too: each `expect` asks for it. Nothing is assumed.
+#![tactic(auto)]
+
 ghost use Rattle.std.specs.Prelude.{◌≡◌, true, ◌↔◌, length};
 ghost use Rattle.answer.specs.Answers.{number, value};
 ghost use Rattle.from_array.specs.Answers.{reconstruct_answer, right_forest_answer};

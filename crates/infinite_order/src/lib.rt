@@ -2,5 +2,7 @@
 // `requires`.
 //
 // Contracts cite `specs/Answers.antt` and the definitions of `words`. Nothing is assumed.
+#![tactic(auto)]
+
 pub mod compare;
 pub mod prefix_permutation;

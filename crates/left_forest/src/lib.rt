@@ -2,6 +2,8 @@
 // with no `requires`: crate `factors` writes the Lyndon suffix table, and two passes make the forest of it.
 //
 // Contracts cite `specs/Answers.antt`. Nothing is assumed.
+#![tactic(auto)]
+
 ghost use Rattle.std.specs.Prelude.{◌≡◌, ℕ, length};
 ghost use Rattle.answer.specs.AfterCall.{content_after};
 ghost use Rattle.left_forest.specs.Results.{Growable, Grown};

@@ -2,6 +2,8 @@
 //
 // Contracts cite `specs/Compared.antt`, `specs/Ranks.antt`, `specs/Keys.antt`, `specs/BuiltIn.antt`, `specs/Default.antt` and the orders of `words`.
 // Nothing is assumed.
+#![tactic(auto)]
+
 pub mod built_in;
 
 ghost use Rattle.std.specs.Prelude.{◌≡◌, ◌<◌, ◌-◌};

@@ -1,5 +1,7 @@
 // What the repeat lister prints: BED lines, or the line of a refusal.
 // Contracts cite `specs/Listing.antt`. Nothing is assumed.
+#![tactic(auto)]
+
 ghost use Rattle.std.specs.Prelude.{◌≡◌, ◌≤◌, ◌<◌, length};
 ghost use Rattle.answer.specs.Limits.{max_letters, run_list_length, work_length};
 ghost use Rattle.answer.specs.Content.{Written};

@@ -1,6 +1,8 @@
 // The calls of the library, exported to C under the names of include/lyndon.h. Each hands on the library's answer and buffers unchanged.
 // A slice is a pointer and a length in C; that pointers are valid for their lengths, and that a buffer which is written overlaps no other
 // buffer of the call, is the C caller's part.
+#![tactic(auto)]
+
 ghost use Rattle.std.specs.Prelude.{◌≡◌, length};
 ghost use Rattle.lyndon_c.specs.Record.{record_of, is_built_in};
 ghost use Rattle.array.specs.Calls.{array_answer, array_ranked_answer, runs_answer, runs_ranked_answer};

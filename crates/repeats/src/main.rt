@@ -1,6 +1,8 @@
 // The repeat lister: a FASTA input on standard input, BED lines or the line of a refusal on standard output.
 // What is printed is proved of `listing::list`; here the bytes are only read and written. A read or a write that fails is told on
 // standard error, and after a failed read nothing is listed. No call is made again, not even one that a signal interrupted.
+#![tactic(auto)]
+
 ghost use Rattle.std.specs.Prelude.{◌<◌, length};
 ghost use Rattle.answer.specs.Limits.{max_input};
 ghost use Rattle.repeats.specs.Reading.{Within};

@@ -3,6 +3,8 @@
 //
 // Contracts cite the files `Store` and `Calls` of `table_store`; the clause `step` says the same as a step of a series (`Series`). Nothing is
 // assumed.
+#![tactic(auto)]
+
 ghost use Rattle.std.specs.Prelude.{◌≡◌, [], ◌∷◌, length};
 ghost use Rattle.table_store.specs.Store.{lookup};
 ghost use Rattle.table_store.specs.Series.{result_with, result_of, use_table, array, factorization, suffix_table, left_forest, runs};

@@ -2,6 +2,8 @@
 //
 // Contracts cite `specs/Answers.antt`. What a verdict says of texts over any ordered letters stands in `words`, file `ArrayTheorems`.
 // Nothing is assumed.
+#![tactic(auto)]
+
 mod entries;
 mod spans;
 mod verdict;
