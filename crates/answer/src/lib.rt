@@ -11,7 +11,7 @@ ghost use Rattle.answer.specs.Reasons.{number_of};
 ghost use Rattle.answer.specs.Answers.{accepted_after, accepted_with, refused_for, number, value, comparisons};
 
 // Why a call refuses its input: a case for each row of document 01, "Where each check stands", and those that document 02 adds.
-#[derive(Drop)]
+#[derive(Clone, Copy)]
 pub enum Reason {
     // 1: the length of the text or array is 0.
     EmptyText,
@@ -55,14 +55,14 @@ pub enum Reason {
 
 // What a call makes of its input. Letter comparisons are counted by the factor list alone, any other
 // call has 0 of them. The position is 0 where the tables of the documents name none.
-#[derive(Drop)]
+#[derive(Clone, Copy)]
 pub enum Outcome {
     Accepted { count: u32, comparisons: u32 },
     Refused { reason: Reason, position: u32 },
 }
 
 // What every call returns.
-#[derive(Drop)]
+#[derive(Clone, Copy)]
 pub struct Answer {
     pub outcome: Outcome,
 }

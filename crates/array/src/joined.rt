@@ -3,7 +3,7 @@ use letters::Comparison;
 
 // The word from a position was joined up to `end`: it agrees with what follows on `agreed` letters and with its last part on `part`;
 // `stop` is the comparison that ended the joining, `Above` at the end of the text.
-#[derive(Drop)]
+#[derive(Clone, Copy)]
 pub struct Joined {
     pub end: usize,
     pub agreed: usize,

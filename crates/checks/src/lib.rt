@@ -16,7 +16,7 @@ ghost use Rattle.checks.specs.declared.Check.TheVariants.{Passed};
 use answer::Reason;
 
 // What the checks so far say.
-#[derive(Drop)]
+#[derive(Clone, Copy)]
 pub enum Check {
     Passed,
     Failed { reason: Reason, position: u32 },

@@ -12,7 +12,7 @@ use answer::Answer;
 use checks::{Check, limits};
 
 // How many factors were listed, and how many letter comparisons that took.
-#[derive(Drop)]
+#[derive(Clone, Copy)]
 pub struct Listed {
     pub count: u32,
     pub comparisons: u32,

@@ -9,14 +9,14 @@ ghost use Rattle.factors.specs.DuvalTurns.{stretch_at};
 use letters::Comparison;
 
 // What a scan found: from its start up to `end` the text repeats its first `period` letters.
-#[derive(Drop)]
+#[derive(Clone, Copy)]
 pub struct Stretch {
     pub period: usize,
     pub end: usize,
 }
 
 // The same, with the number of letter comparisons made up to then.
-#[derive(Drop)]
+#[derive(Clone, Copy)]
 pub struct Scanned {
     pub period: usize,
     pub end: usize,

@@ -18,7 +18,7 @@ use fasta_record::lines::{Ending, after_line};
 use fasta_record::record_ending;
 
 // What the reader answers, and the `end` of the name, past its last byte: 0 where it refuses.
-#[derive(Drop)]
+#[derive(Clone, Copy)]
 pub struct NamedAnswer {
     pub answer: Answer,
     pub end: usize,

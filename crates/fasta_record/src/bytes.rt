@@ -9,7 +9,7 @@ pub const HEADER_MARK: u8 = 62;
 pub const LINE_END: u8 = 10;
 
 // What a byte of the sequence lines is.
-#[derive(Drop)]
+#[derive(Clone, Copy)]
 pub enum Kind {
     // A to Z or a to z.
     Letter,
@@ -24,7 +24,7 @@ pub enum Kind {
 }
 
 // What a byte after '>' is to the name.
-#[derive(Drop)]
+#[derive(Clone, Copy)]
 pub enum NameByte {
     // 33 to 126: a byte of the name.
     Part,

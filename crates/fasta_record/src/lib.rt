@@ -15,7 +15,7 @@ use crate::name::{Name, name_from};
 use answer::Reason;
 
 // How a record ends, and the `end` of its name: 0 where none is found.
-#[derive(Drop)]
+#[derive(Clone, Copy)]
 pub struct NamedEnding {
     pub ending: Ending,
     pub end: usize,

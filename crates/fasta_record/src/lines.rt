@@ -8,7 +8,7 @@ use answer::Reason;
 use checks::limits::max_letters;
 
 // How a record ends.
-#[derive(Drop)]
+#[derive(Clone, Copy)]
 pub enum Ending {
     // A byte that a check refuses.
     RefusedAt { reason: Reason, position: usize },
@@ -19,7 +19,7 @@ pub enum Ending {
 }
 
 // What a byte of the sequence lines does.
-#[derive(Drop)]
+#[derive(Clone, Copy)]
 pub enum Step {
     // Reading goes on, inside a line or at the start of one, with `count` letters.
     On { inside: bool, count: u32 },

@@ -8,7 +8,7 @@ use crate::bytes::{NameByte, name_byte_of};
 pub const MAX_NAME: usize = 60;
 
 // What is found of a name.
-#[derive(Drop)]
+#[derive(Clone, Copy)]
 pub enum Name {
     // It has 1 to 60 bytes, and it is over at `end`, past the last of them.
     Named { end: usize },

@@ -16,7 +16,7 @@ ghost use Rattle.letters.specs.Keys.{rank_in, rank_table, turned_table, table_in
 use checks::limits;
 
 // Document 01's below, same or above.
-#[derive(Drop)]
+#[derive(Clone, Copy)]
 pub enum Comparison {
     Below,
     Same,

@@ -29,7 +29,7 @@ use table_store::store::TableStore;
 // An answer as C has it: number 0, the count and the letter comparisons that were counted, or the
 // refusal's number, the position and 0.
 #[repr(C)]
-#[derive(Drop)]
+#[derive(Clone, Copy)]
 pub struct LyndonAnswer {
     pub number: u32,
     pub value: u32,
@@ -38,7 +38,7 @@ pub struct LyndonAnswer {
 
 // A store and the answer of the call that wrote into it, as C has them.
 #[repr(C)]
-#[derive(Drop)]
+#[derive(Clone, Copy)]
 pub struct LyndonStoreWritten {
     pub store: TableStore,
     pub answer: LyndonAnswer,

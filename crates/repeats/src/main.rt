@@ -18,7 +18,7 @@ const INPUT: usize = MAX_INPUT + 1;
 const OUTPUT: usize = MAX_LISTING;
 
 // What reading came to: so many bytes, to the end of the input or of the buffer; or a read failed.
-#[derive(Drop)]
+#[derive(Clone, Copy)]
 enum Reading {
     Whole(usize),
     Failed,

@@ -21,21 +21,21 @@ const BUILT_IN_TABLES: u32 = 2;
 // The bytes of the six own tables, table after table, first those of group 1, and for each whether it is written: 0 where it is not, any
 // other number where it is.
 #[repr(C)]
-#[derive(Drop)]
+#[derive(Clone, Copy)]
 pub struct TableStore {
     pub tables: [u8; 1536],
     pub written: [u8; 6],
 }
 
 // A store and the answer of the call that wrote into it.
-#[derive(Drop)]
+#[derive(Clone, Copy)]
 pub struct StoreWritten {
     pub store: TableStore,
     pub answer: Answer,
 }
 
 // What a call that uses a table finds: whether it may go on, and then the table.
-#[derive(Drop)]
+#[derive(Clone, Copy)]
 pub struct TableFound {
     pub check: Check,
     pub table: [u8; 256],
