@@ -4,7 +4,6 @@ use mathlib.Core.Path.{◌≡◌, refl}
 use Prim.Native.Nat.{ℕ}
 use native.Mathlib.Omega.{arith}
 use Rattle.words.specs.Decided as words
-use Rattle.letters.specs.declared.Comparison.{Comparison}
 use Rattle.letters.specs.declared.Comparison.TheVariants.{Below, Same, Above}
 use Rattle.letters.specs.Compared.{comparison_of}
 

@@ -1,7 +1,7 @@
 -- The tests of the code tell ranks and orders as the definitions do, and its loops write the tables.
 -- Assumes nothing.
 use mathlib.Core.Path.{◌≡◌, refl, ap, sym, ◌∙◌}
-use mathlib.Core.Bool.{Bool, true, false, cond, not}
+use mathlib.Core.Bool.{Bool, false, cond, not}
 use mathlib.Core.List.{List, ◌++◌, append-nil}
 use Prim.Native.Nat.{ℕ, ◌<◌, ◌≤◌, ◌-◌, ◌+◌}
 use native.Mathlib.Omega.{arith}
@@ -20,7 +20,7 @@ use Rattle.words.specs.Laws.Tabulate.{length-tabulate}
 use Rattle.checks.specs.Checks.{uses_table}
 use Rattle.letters.specs.declared.Comparison.TheVariants.{Same}
 use Rattle.letters.specs.Compared.{comparison_of}
-use Rattle.letters.specs.Ranks.{rank_by, direction_of, rank_differs}
+use Rattle.letters.specs.Ranks.{rank_by, rank_differs}
 use Rattle.letters.specs.RankLaws.{ranks_agree}
 use Rattle.letters.specs.Keys.{rank_in, rank_table, turned_table, table_into, key_table}
 

@@ -1,0 +1,15 @@
+-- `letters::rank_table` meets its contract: the entries below a are written.
+-- Assumes nothing.
+use Prim.Native.Nat.{◌≤◌, ◌-◌}
+use lib.ListN.{length}
+use mathlib.Core.Path.{◌≡◌}
+use Rattle.answer.specs.Limits.{table_length}
+use Rattle.answer.specs.Content.{Holds}
+use Rattle.letters.specs.Keys.{rank_in}
+use Rattle.letters.proofs.rank_table.Given as goal
+
+abbrev pub invariant-loop-a : goal.invariant-loop-a
+invariant-loop-a l = (length l.initial.out ≡ table_length) × (l.a ≤ length l.out) × Holds (rank_in l.order l.table) l.a l.initial.out l.out
+
+abbrev pub decreases-loop-a : goal.decreases-loop-a
+decreases-loop-a l = length l.out - l.a
