@@ -107,17 +107,17 @@ module _ {now : Check} where
       let first_some = if_cleared (empty_checked n both) (eqb m 0) EmptyText 0 (passing all (accepted_with 0) e) in
       let both_some = if_cleared both (eqb n 0) EmptyText 0 first_some.1 in
       let first_short = if_cleared (limit_checked max_length n (accepted_with 0)) (ltb max_length m) TextTooLong 0 both_some.1 in
-      let both-short = if_cleared (accepted_with 0) (ltb max_length n) TextTooLong 0 first_short.1 in (
+      let both_short = if_cleared (accepted_with 0) (ltb max_length n) TextTooLong 0 first_short.1 in (
         record { some = omega (arith, eqb-false m 0 first_some.0); short = ltb-false max_length m first_short.0 },
-        record { some = omega (arith, eqb-false n 0 both_some.0); short = ltb-false max_length n both-short.0 },
+        record { some = omega (arith, eqb-false n 0 both_some.0); short = ltb-false max_length n both_short.0 },
       )
 
   pub lyndon_word_passed : (n given : ℕ) (holds : Bool) → Adds Passed now (lyndon_word_checked n given holds) → now ≡ Passed →
       Sized n × (prefix_count n ≤ given) × (holds ≡ true)
   lyndon_word_passed n given holds all e =
       let sized = sized_passed n (λ rest. output_checked (prefix_count n) given (lyndon_checked holds rest)) all e in
-      let in_List = output_cleared (lyndon_checked holds (accepted_with 0)) (prefix_count n) given sized.1 in
-      (sized.0, in_List.0, (lyndon_cleared (accepted_with 0) holds in_List.1).0)
+      let in_list = output_cleared (lyndon_checked holds (accepted_with 0)) (prefix_count n) given sized.1 in
+      (sized.0, in_list.0, (lyndon_cleared (accepted_with 0) holds in_list.1).0)
 
   pub ordered_text_passed : (n order given : ℕ) → Adds Passed now (ordered_text_checked n order given) → now ≡ Passed →
       Sized n × (order ≤ 1) × (n ≤ given)
@@ -157,16 +157,16 @@ module _ {now : Check} where
       Sized n × (run_list_length n ≤ list) × (work_length n ≤ work)
   runs_passed n list work all e =
       let sized = sized_passed n (λ rest. output_checked (run_list_length n) list (work_checked (work_length n) work rest)) all e in
-      let in_List = output_cleared (work_checked (work_length n) work (accepted_with 0)) (run_list_length n) list sized.1 in
-      (sized.0, in_List.0, (work_cleared (accepted_with 0) (work_length n) work in_List.1).0)
+      let in_list = output_cleared (work_checked (work_length n) work (accepted_with 0)) (run_list_length n) list sized.1 in
+      (sized.0, in_list.0, (work_cleared (accepted_with 0) (work_length n) work in_list.1).0)
 
   pub ranked_runs_passed : (n entries list work : ℕ) → Adds Passed now (ranked_runs_checked n entries list work) → now ≡ Passed →
       Sized n × (run_list_length n ≤ list) × (work_length n ≤ work) × (entries ≡ table_length)
   ranked_runs_passed n entries list work all e =
       let sized = sized_passed n (λ rest. table_checked true entries (output_checked (run_list_length n) list (work_checked (work_length n) work rest))) all e in
       let ranked = table_cleared (output_checked (run_list_length n) list (work_checked (work_length n) work (accepted_with 0))) true entries sized.1 in
-      let in_List = output_cleared (work_checked (work_length n) work (accepted_with 0)) (run_list_length n) list ranked.1 in
-      (sized.0, in_List.0, (work_cleared (accepted_with 0) (work_length n) work in_List.1).0, ranked.0 refl)
+      let in_list = output_cleared (work_checked (work_length n) work (accepted_with 0)) (run_list_length n) list ranked.1 in
+      (sized.0, in_list.0, (work_cleared (accepted_with 0) (work_length n) work in_list.1).0, ranked.0 refl)
 
   pub reader_passed : (n given : ℕ) → Adds Passed now (reader_checked n given) → now ≡ Passed → (n ≤ max_input) × (max_letters ≤ given)
   reader_passed n given all e =
