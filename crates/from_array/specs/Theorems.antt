@@ -3,7 +3,7 @@
 -- Assumes nothing.
 use Rattle.std.specs.Prelude.{◌≡◌, refl, ◌↔◌, List, ℕ, ◌≤◌, length, take, drop}
 use Rattle.std.proofs.Common.{sym, ap, subst, ◌∙◌, arith}
-use Rattle.std.proofs.Math.Logic.{Iff·trans}
+use Rattle.std.proofs.Math.Logic.Iff
 use Rattle.words.specs.Letters.{Letters, rising}
 use Rattle.words.specs.LyndonArray.{IsLyndonArray}
 use Rattle.words.specs.RightForest.{IsRightForest}
@@ -78,11 +78,11 @@ module _ (a : List ℕ) (sized : Sized (length a)) (text : List ℕ) (room : len
 
   -- It refuses the array exactly when no text over any totally ordered letters has it.
   pub reconstruct_refuses_exactly {ℓ κ} : RefusesArray (reconstruct_answer a (length text)) ↔ (¬ TextWith {ℓ, κ} a)
-  reconstruct_refuses_exactly = rw reconstruct_checked (Iff·trans (refuses_faulty a) (refused_exactly a))
+  reconstruct_refuses_exactly = rw reconstruct_checked (Iff.trans (refuses_faulty a) (refused_exactly a))
 
   -- It accepts, with the count n, exactly when some text has the array.
   pub reconstruct_accepts_exactly {ℓ κ} : (reconstruct_answer a (length text) ≡ accepted_with (length a)) ↔ TextWith {ℓ, κ} a
-  reconstruct_accepts_exactly = rw reconstruct_checked (Iff·trans (accepts_passed a) (passed_exactly a))
+  reconstruct_accepts_exactly = rw reconstruct_checked (Iff.trans (accepts_passed a) (passed_exactly a))
 
   module _ {ℓ κ} (t : TextWith {ℓ, κ} a) where
     -- Then the first n places hold the text that document 01 writes, and the others what they held before.
@@ -109,7 +109,7 @@ module _ (a : List ℕ) (sized : Sized (length a)) (first past : List ℕ) (firs
 
   -- It refuses the array exactly when no text over any totally ordered letters has it.
   pub right_forest_refuses_exactly {ℓ κ} : RefusesArray (right_forest_answer a (length first) (length past)) ↔ (¬ TextWith {ℓ, κ} a)
-  right_forest_refuses_exactly = rw right_forest_checked (Iff·trans (refuses_faulty a) (refused_exactly a))
+  right_forest_refuses_exactly = rw right_forest_checked (Iff.trans (refuses_faulty a) (refused_exactly a))
 
   -- Both calls give one answer, so they refuse alike.
   pub answer_alike : (text : List ℕ) → length a ≤ length text → reconstruct_answer a (length text) ≡ right_forest_answer a (length first) (length past)
@@ -117,7 +117,7 @@ module _ (a : List ℕ) (sized : Sized (length a)) (first past : List ℕ) (firs
 
   -- It accepts, with the count n, exactly when some text has the array.
   pub right_forest_accepts_exactly {ℓ κ} : (right_forest_answer a (length first) (length past) ≡ accepted_with (length a)) ↔ TextWith {ℓ, κ} a
-  right_forest_accepts_exactly = rw right_forest_checked (Iff·trans (accepts_passed a) (passed_exactly a))
+  right_forest_accepts_exactly = rw right_forest_checked (Iff.trans (accepts_passed a) (passed_exactly a))
 
   -- Then both buffers hold in their first n places what is read off the array, and in the others what they held before.
   pub written_buffers {ℓ κ} : TextWith {ℓ, κ} a
