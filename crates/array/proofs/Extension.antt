@@ -1,17 +1,14 @@
 -- How far the suffixes at i and at the end of its word agree.
 -- Assumes nothing.
-use mathlib.Core.Path.{◌≡◌, subst, sym, ap, ◌∙◌}
-use mathlib.Core.Logic.{◌⊎◌, ⊎_elim}
+use mathlib.Core.Path.{◌≡◌, refl, subst, sym, ap, ◌∙◌}
 use mathlib.Core.List.{List}
 use Prim.Native.Nat.{ℕ, ◌+◌, ◌<◌, ◌≤◌, ◌-◌}
 use native.Mathlib.Decide.{dec_lt}
 use native.Mathlib.Omega.{arith}
 use lib.ListN.{length, get_or, drop, length-drop}
 use lib.Seq.{get_or-drop}
-use denote.Enum.Declared.{tag_of}
 use Rattle.words.specs.Laws.SpanLyndon.{letters}
 use Rattle.letters.specs.declared.Comparison.{Comparison}
-use Rattle.letters.specs.contracts.Comparison.{the_type}
 use Rattle.letters.specs.declared.Comparison.TheVariants.{Below, Same, Above}
 use Rattle.agreement.specs.CommonPrefix.{common_prefix}
 use Rattle.array.specs.Core.RunExtent.{StoppedAt, Exact, ExtendedTo}
@@ -83,9 +80,9 @@ module _ (x buf : List ℕ) (i j k : ℕ) where
       omega
       (arith, h, (common_prefix_agreement (drop (i + k) x) (drop (j + k) x)).in_right, length-drop (j + k) x, (w.agreeing l).within)
 
-  -- The comparison said below or same, as its tag tells.
-  pub extended_stopped : (stop : Comparison) → (tag_of the_type stop ≡ 0) ⊎ (tag_of the_type stop ≡ 1) → StoppedAt x buf i j k stop → j < length x →
+  -- The comparison did not say above.
+  pub extended_stopped : (stop : Comparison) → ¬ (stop ≡ Above) → StoppedAt x buf i j k stop → j < length x →
       ExtendedTo x i j k stop
-  extended_stopped Below tag w l = tt
-  extended_stopped Same tag w l = w.agreeing l
-  extended_stopped Above tag w l = absurd (⊎_elim (λ e. omega arith) (λ e. omega arith) tag)
+  extended_stopped Below other w l = tt
+  extended_stopped Same other w l = w.agreeing l
+  extended_stopped Above other w l = absurd (other refl)

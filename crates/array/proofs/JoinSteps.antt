@@ -1,18 +1,15 @@
 -- The join loop: its start, a factor joined, and each way it ends.
 -- Assumes nothing.
-use mathlib.Core.Path.{◌≡◌, subst, sym, ap, ◌∙◌}
-use mathlib.Core.Logic.{◌⊎◌, ⊎_elim}
+use mathlib.Core.Path.{◌≡◌, refl, subst, sym, ap, ◌∙◌}
 use mathlib.Core.List.{List}
 use Prim.Native.Nat.{ℕ, suc, ◌+◌, ◌<◌, ◌≤◌}
 use native.Mathlib.Omega.{arith}
 use lib.ListN.{length, get_or}
-use denote.Enum.Declared.{tag_of}
 use Rattle.words.specs.Laws.Position.{SpanLyndon}
 use Rattle.words.specs.Laws.SpanLyndon.{letters}
 use Rattle.words.specs.Laws.SuffixOrder.{NextSmaller}
 use Rattle.words.specs.Letters.{order_of}
 use Rattle.letters.specs.declared.Comparison.{Comparison}
-use Rattle.letters.specs.contracts.Comparison.{the_type}
 use Rattle.letters.specs.declared.Comparison.TheVariants.{Below, Same, Above}
 use Rattle.answer.specs.ContentLaws.{kept_all, kept_then, kept_where}
 use Rattle.array.specs.Core.Join.{Stopped, JoinedTo, Agreeing}
@@ -65,9 +62,9 @@ join_start {order} {x} {buf} {i} l r =
           joining_start l (subst (λ (j : ℕ). RowsOf order x buf j) e r);
     })
 
--- The comparison did not say below, as its tag tells: the word ends at its next smaller suffix.
+-- The comparison did not say below: the word ends at its next smaller suffix.
 pub joined_stopped : {order : ℕ} {x before buf : List ℕ} {i j k₀ g₀ l s k : ℕ} {v : Comparison} → Comparing order x before buf i j k₀ g₀ l s →
-    Compared order x i j k v → (tag_of the_type v ≡ 1) ⊎ (tag_of the_type v ≡ 2) →
+    Compared order x i j k v → ¬ (v ≡ Below) →
     JoinedTo order x before buf i (record { end = j; agreed = k; part = g₀; stop = v })
 joined_stopped {order} {x} {before} {buf} {i} {j} {k₀} {g₀} {k = k} {v} w = go v
   where
@@ -82,11 +79,11 @@ joined_stopped {order} {x} {before} {buf} {i} {j} {k₀} {g₀} {k = k} {v} w = 
           stopped = c.2;
         }
 
-    go : (u : Comparison) → Compared order x i j k u → (tag_of the_type u ≡ 1) ⊎ (tag_of the_type u ≡ 2) →
+    go : (u : Comparison) → Compared order x i j k u → ¬ (u ≡ Below) →
         JoinedTo order x before buf i (record { end = j; agreed = k; part = g₀; stop = u })
-    go Below c tag = absurd (⊎_elim (λ e. omega arith) (λ e. omega arith) tag)
-    go Same c tag = ended Same c
-    go Above c tag = ended Above c
+    go Below c other = absurd (other refl)
+    go Same c other = ended Same c
+    go Above c other = ended Above c
 
 -- The text ended.
 pub joined_end : {order : ℕ} {x before buf : List ℕ} {i j k g : ℕ} → JoinLoop order x before buf i j k g → length x ≤ j →

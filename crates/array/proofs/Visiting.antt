@@ -1,13 +1,11 @@
 -- A visited position: its word is joined and stored, and its run listed.
 -- Assumes nothing.
 use mathlib.Core.Path.{◌≡◌, refl, subst, sym}
-use mathlib.Core.Logic.{◌⊎◌, ⊎_elim}
 use mathlib.Core.List.{List}
 use Prim.Native.Nat.{ℕ, suc, ◌+◌, ◌<◌, ◌≤◌, ◌-◌, min}
 use native.Mathlib.Decide.{dec_lt, ℕ_discrete}
 use native.Mathlib.Omega.{arith}
 use lib.ListN.{length}
-use denote.Enum.Declared.{tag_of}
 use Rattle.words.specs.Laws.Position.{Agree}
 use Rattle.words.specs.Laws.RunListing.{repeated_not_listed, root_agreement_short}
 use Rattle.words.specs.Laws.RunMarks.{end_bound}
@@ -15,7 +13,6 @@ use Rattle.words.specs.Laws.SpanLyndon.{letters}
 use Rattle.words.specs.Laws.SuffixOrder.{NextSmaller, agree_less}
 use Rattle.words.specs.Letters.{rising}
 use Rattle.letters.specs.declared.Comparison.{Comparison}
-use Rattle.letters.specs.contracts.Comparison.{the_type}
 use Rattle.letters.specs.declared.Comparison.TheVariants.{Below, Same, Above}
 use Rattle.answer.specs.ContentLaws.{kept_all}
 use Rattle.array.specs.declared.joined.Joined.{Joined}
@@ -109,14 +106,14 @@ module _ (x before buf : List ℕ) (i : ℕ) (r : Joined) (w : JoinedTo 0 x befo
       (subst (λ (m : ℕ). Agree (letters 0 x) i m p) (sym q.1.0) q.1.1) (omega (arith, q.1.0, nj.inside))
       (end_bound order (length x)) t.start (suc t.last) t.period)
 
-  -- Where the comparison did not say above, as its tag tells, nothing is listed: it never said below.
-  pub not_listed : (order : ℕ) (list : List ℕ) (count : ℕ) → (tag_of the_type r.stop ≡ 0) ⊎ (tag_of the_type r.stop ≡ 1) → Listed order x list list i count count
-  not_listed order list count tag = go r.stop refl tag
+  -- Where the comparison did not say above, nothing is listed: it never said below.
+  pub not_listed : (order : ℕ) (list : List ℕ) (count : ℕ) → ¬ (r.stop ≡ Above) → Listed order x list list i count count
+  not_listed order list count other = go r.stop refl other
     where
-      go : (c : Comparison) → r.stop ≡ c → (tag_of the_type c ≡ 0) ⊎ (tag_of the_type c ≡ 1) → Listed order x list list i count count
+      go : (c : Comparison) → r.stop ≡ c → ¬ (c ≡ Above) → Listed order x list list i count count
       go Below e t = absurd (subst (λ (c : Comparison). Stopped 0 x i r.end r.agreed c) e w.stopped)
       go Same e t = same_not_listed order list count e
-      go Above e t = absurd (⊎_elim (λ z. omega arith) (λ z. omega arith) t)
+      go Above e t = absurd (t refl)
 
 -- A visited position: its row is stored, and its run is listed.
 pub visited : (order : ℕ) (x before buf after list list' : List ℕ) (i k count m : ℕ) (r : Joined) → RowsOf 0 x before (i + 1) →

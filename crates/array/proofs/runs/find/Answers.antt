@@ -1,0 +1,31 @@
+-- `array::runs::find` meets its contract: both passes, and the sort.
+-- Assumes nothing.
+use Rattle.words.specs.Letters.{rising, falling}
+use Rattle.words.specs.Laws.OrderedAlike.{OrderedAlike}
+use Rattle.letters.specs.Ranks.{rank_row}
+use Rattle.letters.specs.RankLaws.{fitting_bytes}
+use Rattle.array.proofs.RankedLetters.{row_size}
+use Rattle.array.proofs.PassLaws.{first_ready, second_ready}
+use Rattle.array.proofs.RunsFound.{turned_row, runs_found}
+use Rattle.array.proofs.runs.find.Goals as goal
+
+pub pass-first-requires : goal.pass-first-requires
+pass-first-requires c = search first_ready
+
+pub pass-count-requires : goal.pass-count-requires
+pass-count-requires c =
+    let turned : OrderedAlike rising falling 0 0 (rank_row c.turned_table.new.out c.args.text.now) (rank_row c.args.keys.now c.args.text.now) =
+    turned_row _ _ _ (fitting_bytes c.type_inv.text) c.requires.bytes c.turned_table.ensures.content
+    in
+    second_ready _ _ _ _ _ _ _ _ c.requires.find_ready (row_size c.args.keys.now c.args.text.now) turned c.pass-first.ensures.content
+
+pub returns : goal.returns
+returns c =
+    let turned : OrderedAlike rising falling 0 0 (rank_row c.turned_table.new.out c.args.text.now) (rank_row c.args.keys.now c.args.text.now) =
+    turned_row _ _ _ (fitting_bytes c.type_inv.text) c.requires.bytes c.turned_table.ensures.content
+    in
+    record {
+      content =
+          runs_found _ _ _ _ _ _ _ _ _ _ _ _ c.pass-first.ensures.content c.pass-count.ensures.content turned c.sort_triples.ensures.content
+          c.requires.find_ready (row_size c.args.keys.now c.args.text.now);
+    }
