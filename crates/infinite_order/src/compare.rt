@@ -20,8 +20,8 @@ fn next(i: usize, n: usize) -> usize
 
 // Texts of m and n letters with the same endless copies: the longer is below.
 fn compare_lengths(m: usize, n: usize) -> Comparison
-    requires sized { Sized m }
-    requires sized_2 { Sized n }
+    requires first_sized { Sized m }
+    requires second_sized { Sized n }
     ensures answer { result ≡ comparison_of (compare_numbers n m) }
 {
     letters::compare(n as u32, m as u32, 0)
@@ -30,8 +30,8 @@ fn compare_lengths(m: usize, n: usize) -> Comparison
 // Endless copies of u and of v, compared in rising order: the first letters that differ decide, and at
 // most |u| + |v| of each are looked at; where they are the same, the longer text is below.
 fn compare_copies(u: &[u8], v: &[u8]) -> Comparison
-    requires sized { Sized (length u.now) }
-    requires sized_2 { Sized (length v.now) }
+    requires first_sized { Sized (length u.now) }
+    requires second_sized { Sized (length v.now) }
     ensures answer { result ≡ comparison_of (compare_infinite decided_rising 0 u.now v.now) }
 {
     let most = u.len() + v.len();
