@@ -1,81 +1,82 @@
 // Runs the factor list, the Lyndon suffix table and the left forest, in the default order, on worked
 // examples of document 01, on inputs that are refused and on texts in mixed case; of the last the factor
 // list in order 0 too. A line shows an answer's number, value and comparisons, and then each place of a
-// buffer that held 99 everywhere.
+// buffer that held 99 everywhere. A write that fails ends the run with its error.
 #![tactic(auto)]
 
 use answer::Answer;
-use libc::STDOUT_FILENO;
+use std::io;
 
 // Writes a blank and a number.
-fn print(n: u32) {
-    io::write_all(STDOUT_FILENO, b" ");
-    io::print_decimal(STDOUT_FILENO, n as u64);
+fn print(rt: &impl Print, n: u32) -> io::Result<()> {
+    print!(rt; " {n}")
 }
 
 // Writes the numbers of a buffer.
-fn print_all(buffer: &[u32]) {
+fn print_all(rt: &impl Print, buffer: &[u32]) -> io::Result<()> {
     let mut i = 0;
     while i < buffer.len() {
-        print(buffer[i]);
+        print(rt, buffer[i])?;
         i += 1;
     }
+    Ok(())
 }
 
 // Writes an answer and the content of a buffer, in a line of its own.
-fn print_line(a: Answer, buffer: &[u32]) {
-    io::print_decimal(STDOUT_FILENO, answer::number(a) as u64);
-    print(answer::value(a));
-    print(answer::comparisons(a));
-    io::write_all(STDOUT_FILENO, b":");
-    print_all(buffer);
-    io::write_all(STDOUT_FILENO, b"\n");
+fn print_line(rt: &impl Print, a: Answer, buffer: &[u32]) -> io::Result<()> {
+    let number = answer::number(a);
+    print!(rt; "{number}")?;
+    print(rt, answer::value(a))?;
+    print(rt, answer::comparisons(a))?;
+    print!(rt; ":")?;
+    print_all(rt, buffer)?;
+    println!(rt; "")
 }
 
-fn print_factorization(text: &[u8]) {
+fn print_factorization(rt: &impl Print, text: &[u8]) -> io::Result<()> {
     let mut out = [99u32; 16];
     let a = factors::factorization::factorization(text, &mut out);
-    print_line(a, &out);
+    print_line(rt, a, &out)
 }
 
 // The factor list in order 0, which looks at no table.
-fn print_rising_factorization(text: &[u8]) {
+fn print_rising_factorization(rt: &impl Print, text: &[u8]) -> io::Result<()> {
     let mut out = [99u32; 16];
     let a = factors::factorization::factorization_ranked(text, 0, b"", &mut out);
-    print_line(a, &out);
+    print_line(rt, a, &out)
 }
 
-fn print_suffix_table(text: &[u8]) {
+fn print_suffix_table(rt: &impl Print, text: &[u8]) -> io::Result<()> {
     let mut out = [99u32; 16];
     let a = factors::suffix_table::suffix_table(text, &mut out);
-    print_line(a, &out);
+    print_line(rt, a, &out)
 }
 
-fn print_left_forest(text: &[u8]) {
+fn print_left_forest(rt: &impl Print, text: &[u8]) -> io::Result<()> {
     let mut first = [99u32; 6];
     let mut past = [99u32; 5];
     let a = left_forest::left_forest(text, &mut first, &mut past);
-    print_line(a, &first);
-    print_line(a, &past);
+    print_line(rt, a, &first)?;
+    print_line(rt, a, &past)
 }
 
-fn main() {
-    print_factorization(b"abbababaababbaba");
-    print_factorization(b"abab");
-    print_factorization(b"");
-    print_factorization(b"abbababaababbabaa");
-    print_suffix_table(b"babbababbaabb");
-    print_suffix_table(b"");
-    print_suffix_table(b"abbababaababbabaa");
-    print_left_forest(b"aabb");
-    print_left_forest(b"aaaa");
-    print_left_forest(b"");
-    print_left_forest(b"aababb");
-    print_left_forest(b"aababba");
-    print_factorization(b"aB");
-    print_rising_factorization(b"aB");
-    print_factorization(b"TaTAt");
-    print_rising_factorization(b"TaTAt");
-    print_suffix_table(b"TaTAt");
-    print_left_forest(b"TaTAt");
+fn main(rt: HostRuntime) -> io::Result<()> {
+    print_factorization(&rt, b"abbababaababbaba")?;
+    print_factorization(&rt, b"abab")?;
+    print_factorization(&rt, b"")?;
+    print_factorization(&rt, b"abbababaababbabaa")?;
+    print_suffix_table(&rt, b"babbababbaabb")?;
+    print_suffix_table(&rt, b"")?;
+    print_suffix_table(&rt, b"abbababaababbabaa")?;
+    print_left_forest(&rt, b"aabb")?;
+    print_left_forest(&rt, b"aaaa")?;
+    print_left_forest(&rt, b"")?;
+    print_left_forest(&rt, b"aababb")?;
+    print_left_forest(&rt, b"aababba")?;
+    print_factorization(&rt, b"aB")?;
+    print_rising_factorization(&rt, b"aB")?;
+    print_factorization(&rt, b"TaTAt")?;
+    print_rising_factorization(&rt, b"TaTAt")?;
+    print_suffix_table(&rt, b"TaTAt")?;
+    print_left_forest(&rt, b"TaTAt")
 }
