@@ -6,7 +6,8 @@ use Prim.Native.Nat.{ℕ, suc, ◌+◌, ◌<◌, ◌≤◌, ◌-◌, ◌*◌}
 use native.Mathlib.Omega.{arith}
 use lib.ListN.{length, take, drop, length-append, length-take, length-drop}
 use Rattle.words.specs.Runs.{Entry}
-use Rattle.words.specs.Laws.EachRunOnce.{ListsDown, lists_none, lists_skip, lists_one, lists_fewer}
+use Rattle.words.specs.Laws.EachRunOnce.{ListsDown, lists_none, lists_skip, lists_one}
+use Rattle.words.proofs.Laws.EachRunOnce.{lists_fewer}
 use Rattle.words.specs.Laws.ListedAlike.{lists_alike}
 use Rattle.words.specs.Laws.OrderedAlike.{OrderedAlike}
 use Rattle.words.specs.Laws.RunMarks.{ListedEntry, end_bound}

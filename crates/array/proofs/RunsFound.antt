@@ -10,12 +10,14 @@ use Rattle.words.specs.Letters.{rising, falling}
 use Rattle.words.specs.Decided.{decided_rising, decided_falling, decided_order}
 use Rattle.words.specs.Equality.{decided_number_equality}
 use Rattle.words.specs.Runs.{Entry, numbers}
-use Rattle.words.specs.Laws.EachRunOnce.{EachRunOnce, ListsDown, lists_fewer, each_run_once, rearranged_run_list}
+use Rattle.words.specs.Laws.EachRunOnce.{EachRunOnce, ListsDown}
+use Rattle.words.proofs.Laws.EachRunOnce.{lists_fewer, each_run_once, rearranged_run_list}
 use Rattle.words.specs.Laws.RunMarks.{end_bound}
 use Rattle.words.specs.Laws.SpanLyndon.{letters}
-use Rattle.words.specs.Laws.Runs.{run_list_unique, numbers_append, numbers_length}
+use Rattle.words.specs.Laws.Runs.{numbers_append, numbers_length}
+use Rattle.words.proofs.Laws.Runs.{run_list_unique}
 use Rattle.words.specs.Compute.LyndonArray.{array_of, array_of_holds}
-use Rattle.words.specs.Laws.RunSearch.{runs_of_holds}
+use Rattle.words.proofs.Laws.RunSearch.{runs_of_holds}
 use Rattle.words.specs.Laws.Unique.{array_unique}
 use Rattle.words.specs.Laws.OrderedAlike.{OrderedAlike, alike_array}
 use Rattle.answer.specs.AfterCall.{written}

@@ -9,8 +9,8 @@ use Rattle.words.specs.Equality.{decided_number_equality}
 use Rattle.words.specs.LyndonArray.{IsLyndonArray}
 use Rattle.words.specs.Runs.{IsRunList, numbers}
 use Rattle.words.specs.Compute.LyndonArray.{array_of, array_of_holds}
-use Rattle.words.specs.RunsTheorem.{run_list_shorter}
-use Rattle.words.specs.Laws.RunSearch.{runs_of_holds}
+use Rattle.words.proofs.RunsTheorem.{run_list_shorter}
+use Rattle.words.proofs.Laws.RunSearch.{runs_of_holds}
 use Rattle.words.specs.Laws.Runs.{numbers_length}
 use Rattle.answer.specs.declared.Reason.TheVariants.{ShortOutput}
 use Rattle.answer.specs.Answers.{accepted_with, refused_for}

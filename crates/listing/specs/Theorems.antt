@@ -5,8 +5,8 @@ use Rattle.std.proofs.Common.{ap, ap₂, subst, ◌∙◌}
 use Rattle.words.specs.Equality.{decided_number_equality}
 use Rattle.words.specs.Runs.{Entry, IsRunList}
 use Rattle.words.specs.Compute.Runs.{runs_of}
-use Rattle.words.specs.Laws.Runs.{run_list_unique}
-use Rattle.words.specs.Laws.RunSearch.{runs_of_holds}
+use Rattle.words.proofs.Laws.Runs.{run_list_unique}
+use Rattle.words.proofs.Laws.RunSearch.{runs_of_holds}
 use Rattle.answer.specs.declared.Answer.{Answer}
 use Rattle.answer.specs.declared.Outcome.{Outcome}
 use Rattle.answer.specs.declared.Outcome.TheVariants.{Accepted, Refused}

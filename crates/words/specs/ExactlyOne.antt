@@ -1,17 +1,16 @@
 -- What makes the definitions definitions: for letters whose comparisons are decided every text has exactly one Lyndon array, factorization,
 -- suffix table, right forest, left forest, run list and prefix standard permutation, and every array one verdict. For all ordered letters there
--- is at most one of each, and that there is none is refuted.
+-- is at most one of each, and that there is none is refuted. What is said so of the run list, and the one prefix standard permutation of decided
+-- letters, stand in `proofs/ExactlyOne`.
 -- Assumes nothing.
 use Rattle.std.specs.Prelude.{◌≡◌, List, ℕ}
 use Rattle.words.specs.Letters.{Letters}
 use Rattle.words.specs.Decided.{Decided}
-use Rattle.words.specs.Equality.{DecidedEquality}
 use Rattle.words.specs.LyndonArray.{IsLyndonArray}
 use Rattle.words.specs.Factorization.{IsFactorization}
 use Rattle.words.specs.SuffixTable.{IsSuffixTable}
 use Rattle.words.specs.RightForest.{IsRightForest}
 use Rattle.words.specs.LeftForest.{IsLeftForest}
-use Rattle.words.specs.Runs.{IsRunList}
 use Rattle.words.specs.PrefixPermutation.{IsPrefixPermutation}
 use Rattle.words.specs.Compute.LyndonArray.{array_of, array_of_holds}
 use Rattle.words.specs.Compute.Factorization.{factorization_of, factorization_of_holds}
@@ -19,18 +18,13 @@ use Rattle.words.specs.Compute.SuffixTable.{suffix_table_of, suffix_table_of_hol
 use Rattle.words.specs.Compute.LeftForest.{left_first_of, left_past_of}
 use Rattle.words.specs.Laws.ForestRecords.{left_forest_of_holds}
 use Rattle.words.specs.Compute.RightForest.{right_first_of, right_past_of, right_forest_of_holds}
-use Rattle.words.specs.Compute.Runs.{runs_of}
-use Rattle.words.specs.Laws.RunSearch.{runs_of_holds}
-use Rattle.words.specs.Compute.PrefixPermutation.{prefix_permutation_of}
 use Rattle.words.specs.Compute.ValidArray.{HasVerdict, check_array, check_array_holds}
 use Rattle.words.specs.Laws.Lyndon.{LyndonTest}
 use Rattle.words.specs.Laws.Existence.{test_irrefutable, tested_array, tested_factorization, tested_suffix_table, tested_right_forest, tested_left_forest}
-use Rattle.words.specs.Laws.RunExistence.{run_list_irrefutable}
 use Rattle.words.specs.Laws.Unique.{array_unique, suffix_table_unique}
 use Rattle.words.specs.Laws.FactorChain.{factorization_unique}
 use Rattle.words.specs.Laws.ForestUnique.{right_forest_unique, left_forest_unique}
-use Rattle.words.specs.Laws.Runs.{run_list_unique}
-use Rattle.words.specs.Laws.PrefixPermutation.{prefix_permutation_unique, prefix_permutation_of_holds, prefix_permutation_irrefutable}
+use Rattle.words.specs.Laws.PrefixPermutation.{prefix_permutation_unique, prefix_permutation_irrefutable}
 use Rattle.words.specs.Laws.ValidArray.{verdict_unique}
 
 -- The value has the property, and no other has it.
@@ -84,13 +78,6 @@ module _ {ℓ κ} {A : Type ℓ} {O : Letters {ℓ, κ} A} (D : Decided O) (x : 
       let holds = left_forest_of_holds D x (factorization_of_holds D x) in
       record { holds = holds; only = λ b h. both_buffers (left_forest_unique h holds) }
 
-  pub one_prefix_permutation : (z : A) → ExactlyOne (IsPrefixPermutation O x) (prefix_permutation_of D z x)
-  one_prefix_permutation z =
-      record {
-        holds = prefix_permutation_of_holds D z x;
-        only = λ b h. prefix_permutation_unique O x b (prefix_permutation_of D z x) h (prefix_permutation_of_holds D z x);
-      }
-
 -- All ordered letters, with no comparison decided.
 module _ {ℓ κ} {A : Type ℓ} (O : Letters {ℓ, κ} A) (x : List A) where
   tested {μ ν} : {B : Type μ} {P : B → Type ν} → (LyndonTest O x → (b : B) × P b) → ¬ ¬ ((b : B) × P b)
@@ -121,13 +108,6 @@ module _ {ℓ κ} {A : Type ℓ} (O : Letters {ℓ, κ} A) (x : List A) where
 
   pub prefix_permutation_for_all : NeitherTwoNorNone (IsPrefixPermutation O x)
   prefix_permutation_for_all = record { not_two = prefix_permutation_unique O x; not_none = prefix_permutation_irrefutable O x }
-
-pub one_run_list {ℓ} : {A : Type ℓ} (E : DecidedEquality A) (x : List A) → ExactlyOne (IsRunList x) (runs_of E x)
-one_run_list E x = record { holds = runs_of_holds E x; only = λ b h. run_list_unique h (runs_of_holds E x) }
-
--- Letters of any kind, with no equality decided.
-pub run_list_for_all {ℓ} : {A : Type ℓ} (x : List A) → NeitherTwoNorNone (IsRunList x)
-run_list_for_all x = record { not_two = λ b c h k. run_list_unique h k; not_none = run_list_irrefutable x }
 
 pub one_verdict : (a : List ℕ) → ExactlyOne (HasVerdict a) (check_array a)
 one_verdict a = record { holds = check_array_holds a; only = λ v h. verdict_unique a v (check_array a) h (check_array_holds a) }

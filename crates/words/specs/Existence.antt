@@ -1,26 +1,21 @@
 -- That what is defined is there, for letters of any kind: where the letters of the text itself are compared, and for all letters where
--- excluded middle is assumed.
+-- excluded middle is assumed. What is said so of the run list stands in `proofs/Existence`.
 -- Assumes nothing: excluded middle is a hypothesis of the theorem that uses it.
 use Prim.Axiom.{Lem}
-use Rattle.std.specs.Prelude.{◌≡◌, ℕ, ◌<◌, length}
-use Rattle.std.proofs.Common.{sym, ap, ◌∙◌, arith}
+use Rattle.std.specs.Prelude.{◌≡◌, ℕ}
 use Rattle.std.proofs.Math.Logic.{∥∥₁_prop}
 use mathlib.Core.List.{List, [], ◌∷◌, Memᴰ}
-use Rattle.std.proofs.Math.Option.{some, some-injective}
 use Rattle.words.specs.Letters.{Letters}
 use Rattle.words.specs.LyndonArray.{IsLyndonArray}
 use Rattle.words.specs.Factorization.{IsFactorization}
 use Rattle.words.specs.SuffixTable.{IsSuffixTable}
-use Rattle.words.specs.Runs.{Entry, IsRunList, SameLetter}
 use Rattle.words.specs.ExactlyOne.{ExactlyOne, NeitherTwoNorNone, Buffers, RightForestOf, LeftForestOf, array_for_all, factorization_for_all}
-use Rattle.words.specs.ExactlyOne.{suffix_table_for_all, right_forest_for_all, left_forest_for_all, run_list_for_all}
+use Rattle.words.specs.ExactlyOne.{suffix_table_for_all, right_forest_for_all, left_forest_for_all}
 use Rattle.words.specs.Laws.Letters.{Compared}
 use Rattle.words.specs.Laws.Lyndon.{LyndonTest}
 use Rattle.words.specs.Laws.Members.{position_member}
 use Rattle.words.specs.Laws.SpanLyndon.{letters}
-use Rattle.words.specs.Laws.Periods.{get_elem?_letter}
 use Rattle.words.specs.Laws.Existence.{empty_test, compared_test, tested_array, tested_factorization, tested_suffix_table, tested_right_forest, tested_left_forest}
-use Rattle.words.specs.Laws.RunExistence.{decided_run_list}
 
 -- The letters of x are compared: of any two of them one is smaller, or they are the same. Of other letters nothing is known.
 abbrev pub LettersCompared {ℓ κ} : {A : Type ℓ} → Letters {ℓ, κ} A → List A → Type (ℓ ⊔ κ)
@@ -31,7 +26,7 @@ abbrev pub LettersDecided {ℓ} : {A : Type ℓ} → List A → Type ℓ
 LettersDecided {A = A} x = (a b : A) → Memᴰ a x → Memᴰ b x → Dec (a ≡ b)
 
 -- A value that has the property is the only one.
-only_one {μ ν} : {B : Type μ} {P : B → Type ν} → NeitherTwoNorNone P → (b : B) × P b → (b : B) × ExactlyOne P b
+pub only_one {μ ν} : {B : Type μ} {P : B → Type ν} → NeitherTwoNorNone P → (b : B) × P b → (b : B) × ExactlyOne P b
 only_one never-two p = (p.0, record { holds = p.1; only = λ b h. never-two.not_two b p.0 h p.1 })
 
 module _ {ℓ κ} {A : Type ℓ} (O : Letters {ℓ, κ} A) (x : List A) (compared : LettersCompared O x) where
@@ -68,22 +63,8 @@ module _ {ℓ κ} {A : Type ℓ} (O : Letters {ℓ, κ} A) (x : List A) (compare
       let f = tested_left_forest text_test in
       only_one (left_forest_for_all O x) (record { first = f.0; past = f.1 }, f.2)
 
--- A text of whose letters it is decided which are the same has exactly one run list.
-pub decided_runs {ℓ} : {A : Type ℓ} (x : List A) → LettersDecided x → (rs : List Entry) × ExactlyOne (IsRunList x) rs
-decided_runs {A = A} x decided = only_one (run_list_for_all x) (decided_run_list x (λ i j h l. at x decided i j h l))
-  where
-    at : (y : List A) → LettersDecided y → (i j : ℕ) → i < length y → j < length y → Dec (SameLetter y i j)
-    at [] c i j h l = absurd (omega arith)
-    at (z ∷ y) c i j h l =
-        go (c (letters z (z ∷ y) i) (letters z (z ∷ y) j) (position_member z (z ∷ y) i h) (position_member z (z ∷ y) j l))
-      where
-        go : Dec (letters z (z ∷ y) i ≡ letters z (z ∷ y) j) → Dec (SameLetter (z ∷ y) i j)
-        go (yes e) = yes (get_elem?_letter z (z ∷ y) i h ∙ ap some e ∙ sym (get_elem?_letter z (z ∷ y) j l))
-        go (no n) =
-            no (λ e. n (some-injective _ _ (sym (get_elem?_letter z (z ∷ y) i h) ∙ e ∙ get_elem?_letter z (z ∷ y) j l)))
-
 -- By excluded middle there is exactly one of whatever there are never two and never none: of the array, the factorization, the suffix
--- table, the forests, the run list and the prefix standard permutation of every text over letters of any kind (`..-for-all` of ExactlyOne).
+-- table, the forests, the run list and the prefix standard permutation of every text over letters of any kind (`.._for_all` of ExactlyOne).
 pub by_excluded_middle {μ ν} : Lem {μ ⊔ ν} → {B : Type μ} {P : B → Type ν} → NeitherTwoNorNone P → ∥ ((b : B) × ExactlyOne P b) ∥₁
 by_excluded_middle lem {B = B} {P = P} neither = go (lem ∥ ((b : B) × ExactlyOne P b) ∥₁ ∥∥₁_prop)
   where

@@ -53,7 +53,6 @@ pub mod ArrayFactors
 pub mod ArrayForest
 pub mod Existence
 pub mod RunExistence
-pub mod RunCount
 pub mod EachRunOnce
 pub mod ListedAlike
 pub mod FormsAlike

@@ -24,4 +24,3 @@ pub mod Compute
 pub mod ExactlyOne
 pub mod Existence
 pub mod ArrayTheorems
-pub mod RunsTheorem

@@ -1,6 +1,6 @@
 -- The lists computed from the cuts of a rule are the forest under that rule; so are those computed for the left forest.
 -- Assumes nothing.
-use Rattle.std.specs.Prelude.{◌≡◌, refl, Bool, true, false, List, [], ◌∷◌, ◌++◌, ℕ, zero, suc, ◌+◌, ◌-◌, ◌<◌, ◌≤◌, length, get_or, drop, T, ltb}
+use Rattle.std.specs.Prelude.{◌≡◌, refl, Bool, true, false, List, [], ◌∷◌, ◌++◌, ℕ, zero, suc, ◌+◌, ◌<◌, ◌≤◌, length, get_or, drop, T, ltb}
 use Rattle.std.proofs.Common.{sym, ap, ◌∙◌, append_assoc, arith, length-append, drop-drop, get_or-drop, ltb→lt, nltb→le}
 use Rattle.std.proofs.Math.Seq.{drop-append_seam}
 use Rattle.words.specs.Letters.{Letters}

@@ -1,6 +1,6 @@
 -- One letter is a Lyndon word, with no comparison decided, and tests of the spans of a text that pass at its Lyndon words.
 -- Assumes nothing.
-use Rattle.std.specs.Prelude.{◌≡◌, refl, ◌↔◌, Bool, ℕ, zero, suc, ◌+◌, ◌<◌, ◌≤◌, T, length}
+use Rattle.std.specs.Prelude.{◌≡◌, refl, ◌↔◌, Bool, ℕ, zero, suc, ◌<◌, ◌≤◌, T, length}
 use Rattle.std.proofs.Common.{ap, arith, length-append}
 use mathlib.Core.List.{List, [], ◌∷◌, ◌++◌, cons≢nil}
 use Rattle.words.specs.Letters.{Letters}

@@ -1,21 +1,18 @@
--- That a text over letters of any kind has a run list cannot be refuted: where it is decided which of its letters are equal, they may be
--- named by numbers, each by the first place where it stands.
+-- Where it is decided which letters of a text are equal, they may be named by numbers, each by the first place where it stands; that it is decided
+-- cannot be refuted. So a text has a run list: `proofs/Laws/RunExistence`.
 -- Assumes nothing.
 use Rattle.std.specs.Prelude.{◌≡◌, refl, Bool, List, ℕ, ◌<◌, length, get_or}
 use Rattle.std.proofs.Common.{sym, ap, ◌∙◌, arith, zero-add}
 use Rattle.std.proofs.Math.Decide.{dec_lt}
 use Rattle.std.proofs.Math.ListN.{get_elem?}
-use Rattle.words.specs.Equality.{decided_number_equality}
-use Rattle.words.specs.Runs.{SameLetter, Entry, IsRunList}
+use Rattle.words.specs.Runs.{SameLetter}
 use Rattle.words.specs.Tabulate.{tabulate}
 use Rattle.words.specs.Compute.Search.{least_from, LeastFrom, least_from_holds}
-use Rattle.words.specs.Compute.Runs.{runs_of}
-use Rattle.words.specs.Laws.RunSearch.{runs_of_holds}
 use Rattle.words.specs.Laws.Numbers.{least_unique}
 use Rattle.words.specs.Laws.Tabulate.{length-tabulate, get_d_tabulate}
 use Rattle.words.specs.Laws.Compared.{all_irrefutable}
 use Rattle.words.specs.Laws.Periods.{same_letters, letters_same}
-use Rattle.words.specs.Laws.RunRenaming.{SameEqualities, same_equalities_sym, run_list_carried}
+use Rattle.words.specs.Laws.RunRenaming.{SameEqualities}
 use Rattle.words.specs.Laws.Existence.{answered, answered_holds}
 
 module _ {ℓ} {A : Type ℓ} (x : List A) (decided : (i j : ℕ) → i < length x → j < length x → Dec (SameLetter x i j)) where
@@ -89,14 +86,9 @@ module _ {ℓ} {A : Type ℓ} (x : List A) (decided : (i j : ℕ) → i < length
             );
       }
 
-  -- Where it is decided which letters of a text are equal, numbers may stand for them,
+  -- Where it is decided which letters of a text are equal, numbers may stand for them.
   pub letters_numbered : (y : List ℕ) × SameEqualities x y
   letters_numbered = (names, names_same)
-
-  -- and it has a run list.
-  pub decided_run_list : (rs : List Entry) × IsRunList x rs
-  decided_run_list =
-      (runs_of decided_number_equality names, run_list_carried (same_equalities_sym names_same) (runs_of_holds decided_number_equality names))
 
 -- That it is decided cannot be refuted.
 pub equalities_irrefutable {ℓ} : {A : Type ℓ} (x : List A) → ¬ ¬ ((i j : ℕ) → i < length x → j < length x → Dec (SameLetter x i j))
@@ -104,7 +96,3 @@ equalities_irrefutable x never =
     all_irrefutable (λ i. (j : ℕ) → j < length x → Dec (SameLetter x i j)) (length x)
     (λ i h. all_irrefutable (λ j. Dec (SameLetter x i j)) (length x) (λ j l undecided. undecided (no (λ e. undecided (yes e)))))
     (λ q. never (λ i j h l. q i h j l))
-
--- That a text has a run list cannot be refuted.
-pub run_list_irrefutable {ℓ} : {A : Type ℓ} (x : List A) → ¬ ¬ ((rs : List Entry) × IsRunList x rs)
-run_list_irrefutable x never = equalities_irrefutable x (λ decided. never (decided_run_list x decided))

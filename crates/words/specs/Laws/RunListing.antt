@@ -4,7 +4,7 @@ use Rattle.std.specs.Prelude.{◌≡◌, ℕ, ◌+◌, ◌-◌, ◌<◌, ◌≤�
 use Rattle.std.proofs.Common.{sym, ap, subst, ◌∙◌, arith}
 use Rattle.std.proofs.Math.Decide.{dec_lt}
 use Rattle.words.specs.Letters.{Letters, Smaller, reversed}
-use Rattle.words.specs.Decided.{below, turned, turned_means}
+use Rattle.words.specs.Decided.{turned, turned_means}
 use Rattle.words.specs.Laws.Position.{Agree, BelowWithin}
 use Rattle.words.specs.Laws.SuffixOrder.{SuffixLess, ends, parts, NextSmaller, suffix_cancel, agree_sym}
 use Rattle.words.specs.Laws.NextSmaller.{next_lyndon, next_unique, next_nests, lyndon_next}

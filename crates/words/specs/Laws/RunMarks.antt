@@ -1,21 +1,17 @@
--- Every run has a mark of its own, the position that lists it, so that different runs are fewer than the letters of the text, where these are
--- compared.
+-- The mark of a run, the position that lists it, is its own. That every run has one, so that different runs are fewer than the letters of the
+-- text, where these are compared: `proofs/Laws/RunMarks`.
 -- Assumes nothing.
 use Rattle.std.specs.Prelude.{◌≡◌, ◌⊎◌, ◌↔◌, ℕ, zero, suc, ◌+◌, ◌-◌, ◌<◌, ◌≤◌, length}
 use Rattle.std.proofs.Common.{subst, inl, inr, arith}
-use mathlib.Core.List.{List, Memᴰ}
+use mathlib.Core.List.{List}
 use Rattle.words.specs.Letters.{Letters, reversed}
 use Rattle.words.specs.Laws.Runs.{entry_equal}
-use Rattle.words.specs.Runs.{Entry, IsRun}
+use Rattle.words.specs.Runs.{Entry}
 use Rattle.words.specs.Laws.SpanLyndon.{letters}
 use Rattle.words.specs.Laws.SuffixOrder.{NextSmaller}
-use Rattle.words.specs.Laws.Compared.{AllCompared}
-use Rattle.words.specs.Different.{Different}
-use Rattle.words.specs.Laws.Different.{marked_fewer}
-use Rattle.words.specs.Laws.Periods.{run_span, span_run}
 use Rattle.words.specs.Laws.RunExtent.{Extent}
-use Rattle.words.specs.Laws.RunListing.{ListedAt, measure_unique, listed_run, listed_unique, listed_after_start}
-use Rattle.words.specs.Laws.RunOrders.{listed_one_each, run_listed}
+use Rattle.words.specs.Laws.RunListing.{ListedAt, measure_unique, listed_unique, listed_after_start}
+use Rattle.words.specs.Laws.RunOrders.{listed_one_each}
 
 -- Position i lists the entry r.
 abbrev pub ListedEntry {ℓ κ} : {A : Type ℓ} → Letters {ℓ, κ} A → (ℕ → A) → ℕ → ℕ → ℕ → Entry → Type (ℓ ⊔ κ)
@@ -57,28 +53,10 @@ module _ {ℓ κ} {A : Type ℓ} (O : Letters {ℓ, κ} A) (x : ℕ → A) (n bo
       (omega (arith, h.twice, u.0, u.1, u.2), omega (arith, h.last, u.1, u.2), omega (arith, h.early, u.1))
 
 module _ {ℓ κ} {A : Type ℓ} (O : Letters {ℓ, κ} A) (z : A) (x : List A) where
-  -- What is listed is a run.
-  pub listed_is_run : (bound i : ℕ) (r : Entry) → ListedEntry O (letters z x) (length x) bound i r → IsRun x r
-  listed_is_run bound i r h =
-      span_run z x r.start (suc r.last) r.period
-      (listed_run O (letters z x) (length x) bound i r.start (suc r.last) r.period h)
-
-module _ {ℓ κ} {A : Type ℓ} (O : Letters {ℓ, κ} A) (z : A) (x : List A) where
   -- A position at which a run is listed, under one order or the other.
   abbrev pub RunMark : Entry → ℕ → Type (ℓ ⊔ κ)
   RunMark r i =
       ListedEntry O (letters z x) (length x) (suc (length x)) i r ⊎ ListedEntry (reversed O) (letters z x) (length x) (length x) i r
-
-  pub run_mark : AllCompared O (letters z x) (length x) → (r : Entry) → IsRun x r → (i : ℕ) × RunMark r i
-  run_mark compared r h =
-      go
-      (run_listed O (letters z x) (length x) compared r.start (suc r.last) r.period
-      (run_span z x r.start (suc r.last) r.period h))
-    where
-      go : ((i : ℕ) × ListedEntry O (letters z x) (length x) (suc (length x)) i r) ⊎
-          ((i : ℕ) × ListedEntry (reversed O) (letters z x) (length x) (length x) i r) → (i : ℕ) × RunMark r i
-      go (inl w) = (w.0, inl w.1)
-      go (inr w) = (w.0, inr w.1)
 
   -- A position is the mark of one run at most.
   pub run_mark_unique : (r t : Entry) (i : ℕ) → RunMark r i → RunMark t i → r ≡ t
@@ -94,7 +72,7 @@ module _ {ℓ κ} {A : Type ℓ} (O : Letters {ℓ, κ} A) (z : A) (x : List A) 
       r.period k h)
 
   -- No mark is the first position.
-  run_mark_range : (r : Entry) (i : ℕ) → RunMark r i → (0 < i) × (i < length x)
+  pub run_mark_range : (r : Entry) (i : ℕ) → RunMark r i → (0 < i) × (i < length x)
   run_mark_range r i (inl h) =
       let l : r.start < i =
       listed_after_start O (letters z x) (length x) (suc (length x)) i r.start (suc r.last) r.period h in
@@ -103,9 +81,3 @@ module _ {ℓ κ} {A : Type ℓ} (O : Letters {ℓ, κ} A) (z : A) (x : List A) 
       let l : r.start < i =
       listed_after_start (reversed O) (letters z x) (length x) (length x) i r.start (suc r.last) r.period h in
       (omega arith, omega (arith, h.next.after, h.next.inside))
-
-  -- Different runs of a text whose letters are compared are fewer than its letters.
-  pub compared_fewer : AllCompared O (letters z x) (length x) → 0 < length x → (rs : List Entry) → Different rs →
-      ((r : Entry) → Memᴰ r rs → IsRun x r) → length rs < length x
-  compared_fewer compared pos rs h f =
-      marked_fewer RunMark run_mark_unique (length x) pos run_mark_range rs h (λ r m. run_mark compared r (f r m))

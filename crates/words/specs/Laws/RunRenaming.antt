@@ -1,4 +1,5 @@
--- Runs depend on nothing but which letters are equal: a one-to-one renaming of letters keeps the run list.
+-- Runs depend on nothing but which letters are equal: a one-to-one renaming of letters keeps them. That it keeps the run list:
+-- `proofs/Laws/RunRenaming`.
 -- Assumes nothing.
 use Rattle.std.specs.Prelude.{◌≡◌, refl, ◌↔◌, List, [], ◌∷◌, map, ℕ, zero, suc, ◌+◌, ◌<◌, ◌≤◌, length}
 use Rattle.std.proofs.Common.{sym, ap, ◌∙◌, arith}
@@ -6,7 +7,7 @@ use Rattle.std.proofs.Math.Option
 use Rattle.std.proofs.Math.Option.{Option, none, some, some-injective, none-ne-some, some-ne-none}
 use Rattle.std.proofs.Math.ListN.{get_elem?}
 use Rattle.std.proofs.lemmas.List.{length-map}
-use Rattle.words.specs.Runs.{SameLetter, HasPeriod, Run, Entry, IsRunList}
+use Rattle.words.specs.Runs.{SameLetter, HasPeriod, Run}
 
 -- Texts of one length with equal letters at the same pairs of positions.
 pub record SameEqualities {ℓ ℓ'} {A : Type ℓ} {B : Type ℓ'} (x : List A) (y : List B) : Type (ℓ ⊔ ℓ') where
@@ -38,22 +39,6 @@ run_carried {x = x} {y = y} {s = s} {e = e} {p = p} w r =
       no_right = λ i a b h. r.no_right i a (omega (arith, w.size)) ((w.letters i e (omega (arith, w.size)) (omega (arith, w.size))).1 h);
     }
 
--- Texts with the same equalities have the same runs.
-pub run_same {ℓ ℓ'} : {A : Type ℓ} {B : Type ℓ'} {x : List A} {y : List B} {s e p : ℕ} → SameEqualities x y → Run x s e p ↔ Run y s e p
-run_same w = (run_carried w, run_carried (same_equalities_sym w))
-
-pub run_list_carried {ℓ ℓ'} : {A : Type ℓ} {B : Type ℓ'} {x : List A} {y : List B} {rs : List Entry} → SameEqualities x y → IsRunList x rs → IsRunList y rs
-run_list_carried w l =
-    record {
-      sound = λ r m. run_carried w (l.sound r m);
-      complete = λ r h. l.complete r (run_carried (same_equalities_sym w) h);
-      sorted = l.sorted;
-    }
-
--- Texts with the same equalities have the same run list.
-pub run_list_same {ℓ ℓ'} : {A : Type ℓ} {B : Type ℓ'} {x : List A} {y : List B} {rs : List Entry} → SameEqualities x y → IsRunList x rs ↔ IsRunList y rs
-run_list_same w = (run_list_carried w, run_list_carried (same_equalities_sym w))
-
 pub get_elem?_map {ℓ ℓ'} : {A : Type ℓ} {B : Type ℓ'} (f : A → B) (x : List A) (i : ℕ) → get_elem? (map f x) i ≡ Option.map f (get_elem? x i)
 get_elem?_map f [] i = refl
 get_elem?_map f (a ∷ x) zero = refl
@@ -77,9 +62,3 @@ renaming_same {A = A} f inj x =
         λ e. option_map_injective f inj (get_elem? x i) (get_elem? x k) (sym (get_elem?_map f x i) ∙ e ∙ get_elem?_map f x k),
       );
     }
-
--- A renaming that keeps different letters different keeps the run list.
-pub run_list_renamed {ℓ ℓ'} :
-    {A : Type ℓ} {B : Type ℓ'} (f : A → B) → ((a b : A) → f a ≡ f b → a ≡ b) → (x : List A) (rs : List Entry)
-    → IsRunList x rs ↔ IsRunList (map f x) rs
-run_list_renamed f inj x rs = run_list_same (renaming_same f inj x)

@@ -1,11 +1,10 @@
 -- Every run has a Lyndon word of its period, and so one at a rightmost place.
 -- Assumes nothing.
 use Rattle.std.specs.Prelude.{◌≡◌, ℕ, zero, suc, ◌+◌, ◌-◌, ◌%◌, ◌<◌, ◌≤◌}
-use Rattle.std.proofs.Common.{sym, ap, subst, ◌∙◌, mod-lt, mod-eq_of_lt, arith}
+use Rattle.std.proofs.Common.{sym, ap, subst, ◌∙◌, mod-lt, arith}
 use Rattle.std.proofs.Math.Nat.{add-mod_right}
 use Rattle.std.proofs.Math.Decide.{dec_lt}
 use Rattle.words.specs.Letters.{Letters, Smaller}
-use Rattle.words.specs.Decided.{below}
 use Rattle.words.specs.Laws.Letters.{Compared}
 use Rattle.words.specs.Laws.Position.{BelowWithin, SpanLyndon}
 use Rattle.words.specs.Laws.Compared.{AllCompared}

@@ -1,15 +1,14 @@
--- The list that is computed by search is the run list.
+-- What the list that is computed by search holds, and that it is sorted. That it is the run list: `proofs/Laws/RunSearch`.
 -- Assumes nothing.
 use Rattle.std.specs.Prelude.{◌≡◌, refl, ◌⊎◌, ℕ, zero, suc, ◌+◌, ◌-◌, ◌<◌, ◌≤◌, length}
-use Rattle.std.proofs.Common.{sym, subst, inl, inr, arith}
+use Rattle.std.proofs.Common.{sym, inl, inr, arith}
 use Rattle.std.proofs.Math.Path.{subst⁻¹}
 use mathlib.Core.List.{List, [], ◌∷◌, ◌++◌, Memᴰ}
 use Rattle.std.proofs.Math.Option.{Option, none, some}
 use Rattle.std.proofs.Math.Decide.{ℕ_discrete}
 use Rattle.words.specs.Equality.{DecidedEquality}
-use Rattle.words.specs.Runs.{Entry, Earlier, Sorted, IsRun, IsRunList}
+use Rattle.words.specs.Runs.{Entry, Earlier, Sorted}
 use Rattle.words.specs.Compute.Runs.{list_from, period_of, entry_for, entry_at, runs_from, runs_of}
-use Rattle.words.specs.Laws.RunTests.{Found, period_of_holds, period_of_run}
 
 -- Where a member of a joined list comes from.
 pub record FromPart (f : ℕ → List Entry) (i d : ℕ) (r : Entry) : Type 0 where
@@ -93,21 +92,6 @@ module _ {ℓ} {A : Type ℓ} (E : DecidedEquality A) (x : List A) where
       let v : IsEntryFor s w.place o r = entry_for_member s w.place o r w.member in
       (v.start, record { inside = omega arith; found = rw (v.start, v.last) v.period })
 
-  pub runs_of_sound : (r : Entry) → Memᴰ r (runs_of E x) → IsRun x r
-  runs_of_sound r m =
-      let w : FromPart (runs_from E x) 0 (length x) r = list_from_part (runs_from E x) 0 (length x) r m in
-      let v : Searched r = (runs_from_member w.place r w.member).1 in
-      subst (Found x r.start (suc r.last)) v.found (period_of_holds E x r.start (suc r.last) v.inside)
-
-  pub runs_of_complete : (r : Entry) → IsRun x r → Memᴰ r (runs_of E x)
-  runs_of_complete r h =
-      let s : ℕ = r.start in
-      let l : ℕ = r.last in
-      let here : Memᴰ r (entry_at E x s l) = rw (period_of_run E x s (suc l) r.period h) (mathlib.Core.List.Memᴰ.head refl) in
-      let row : Memᴰ r (runs_from E x s) =
-      part_list_from (entry_at E x s) s (length x - s) r l (omega arith) (omega arith) here in
-      part_list_from (runs_from E x) 0 (length x) r s (omega arith) (omega arith) row
-
   pub entry_at_earlier :
       (s k l : ℕ) → k < l → (r t : Entry) → Memᴰ r (entry_at E x s k) → Memᴰ t (entry_at E x s l) → Earlier r t
   entry_at_earlier s k l h r t m n =
@@ -129,7 +113,3 @@ module _ {ℓ} {A : Type ℓ} (E : DecidedEquality A) (x : List A) where
 
   pub runs_of_sorted : Sorted (runs_of E x)
   runs_of_sorted = list_from_sorted (runs_from E x) runs_from_sorted runs_from_earlier 0 (length x)
-
-  -- runs_of computes the run list.
-  pub runs_of_holds : IsRunList x (runs_of E x)
-  runs_of_holds = record { sound = runs_of_sound; complete = runs_of_complete; sorted = runs_of_sorted }

@@ -8,10 +8,9 @@ use Rattle.std.proofs.Math.ListN.{get_elem?}
 use Rattle.std.proofs.Math.Dec.{not_T}
 use Rattle.words.specs.Equality.{DecidedEquality}
 use Rattle.words.specs.Runs.{SameLetter, HasPeriod, Run}
-use Rattle.words.specs.Compute.Search.{first_from, FirstFrom, first_from_holds}
+use Rattle.words.specs.Compute.Search.{FirstFrom}
 use Rattle.words.specs.Laws.Numbers.{least_unique}
-use Rattle.words.specs.Laws.Runs.{run_period_unique}
-use Rattle.words.specs.Compute.Runs.{all_from, equal_at, same_letter, has_period, stops_left, stops_right, period_kept, period_of}
+use Rattle.words.specs.Compute.Runs.{all_from, equal_at, same_letter, has_period, stops_left, stops_right, period_kept}
 
 pub all_from_holds : (f : ℕ → Bool) (i d : ℕ) → T (all_from f i d) ↔ ((k : ℕ) → i ≤ k → k < i + d → T (f k))
 all_from_holds f i zero = (λ t k h l. absurd (omega arith), λ g. tt)
@@ -119,16 +118,3 @@ module _ {ℓ} {A : Type ℓ} (E : DecidedEquality A) (x : List A) where
           (λ k l h. smaller k h.0 l h.1) in
           let run : Run x s e p = rw same at r in
           subst T z (stops.1 ((stops_left_holds s p).1 run.no_left, (stops_right_holds e p (omega arith)).1 run.no_right))
-
-  pub period_of_holds : (s e : ℕ) → e ≤ length x → Found x s e (period_of E x s e)
-  period_of_holds s e l =
-      let d : ℕ = (e - s) / 2 in
-      period_kept_right s e l (first_from (has_period E x s e) 1 d) (first_from_holds (has_period E x s e) 1 d)
-
-  -- A run is found.
-  pub period_of_run : (s e p : ℕ) → Run x s e p → period_of E x s e ≡ some p
-  period_of_run s e p r = go (period_of E x s e) (period_of_holds s e r.inside)
-    where
-      go : (o : Option ℕ) → Found x s e o → o ≡ some p
-      go none n = absurd (n p r)
-      go (some q) t = ap some (run_period_unique t r)

@@ -1,10 +1,9 @@
--- A text has one run list, and a run has one period; entries in order, and the numbers of a list of them.
+-- A run has one period; entries in order, and the numbers of a list of them. That a text has one run list: `proofs/Laws/Runs`.
 -- Assumes nothing.
 use Rattle.std.specs.Prelude.{◌≡◌, refl, ◌⊎◌, ℕ, ◌*◌, ◌<◌, ◌≤◌, length}
 use Rattle.std.proofs.Common.{ap, inl, inr, arith}
 use mathlib.Core.List.{List, [], ◌∷◌, ◌++◌, Memᴰ}
-use Rattle.words.specs.Runs.{HasPeriod, Run, Entry, Earlier, IsRunList, numbers}
-use Rattle.words.specs.Laws.Sorted.{sorted_unique}
+use Rattle.words.specs.Runs.{HasPeriod, Run, Entry, Earlier, numbers}
 use Rattle.words.specs.Laws.Numbers.{least_unique}
 
 -- Runs with one start and one end have one period.
@@ -23,11 +22,6 @@ earlier_not_both r t (inl h) (inl k) = omega arith
 earlier_not_both r t (inl h) (inr k) = omega arith
 earlier_not_both r t (inr h) (inl k) = omega arith
 earlier_not_both r t (inr h) (inr k) = omega arith
-
--- A text has at most one run list.
-pub run_list_unique {ℓ} : {A : Type ℓ} {x : List A} {rs ts : List Entry} → IsRunList x rs → IsRunList x ts → rs ≡ ts
-run_list_unique {rs = rs} {ts = ts} a b =
-    sorted_unique Earlier earlier_not_both rs ts a.sorted b.sorted (λ r m. b.complete r (a.sound r m)) (λ r m. a.complete r (b.sound r m))
 
 -- The numbers of joined lists, and how many there are.
 pub numbers_append : (rs ts : List Entry) → numbers (rs ++ ts) ≡ numbers rs ++ numbers ts

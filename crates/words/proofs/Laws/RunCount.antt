@@ -13,7 +13,7 @@ use Rattle.words.specs.Laws.Compared.{decided_compared}
 use Rattle.words.specs.Laws.Runs.{earlier_not_both}
 use Rattle.words.specs.Laws.Sorted.{sorted_different}
 use Rattle.words.specs.Laws.RunExistence.{letters_numbered, equalities_irrefutable}
-use Rattle.words.specs.Laws.RunMarks.{compared_fewer}
+use Rattle.words.proofs.Laws.RunMarks.{compared_fewer}
 use Rattle.words.specs.Laws.RunRenaming.{run_carried}
 use Rattle.words.specs.Laws.SpanLyndon.{letters}
 

@@ -7,7 +7,7 @@ use Rattle.words.specs.Different.{Different}
 use Rattle.words.specs.Equality.{decided_number_equality}
 use Rattle.words.specs.Runs.{Entry, IsRun, IsRunList, numbers}
 use Rattle.words.specs.Compute.Runs.{runs_of}
-use Rattle.words.specs.Laws.RunCount.{runs_fewer, run_list_fewer}
+use Rattle.words.proofs.Laws.RunCount.{runs_fewer, run_list_fewer}
 
 module _ {ℓ} {A : Type ℓ} (x : List A) (some : 0 < length x) where
   -- Any list of different runs is shorter than the text.

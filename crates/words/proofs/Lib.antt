@@ -1,0 +1,4 @@
+pub mod Laws
+pub mod ExactlyOne
+pub mod Existence
+pub mod RunsTheorem
