@@ -23,9 +23,9 @@ fn write_line(name: &[u8], start: u32, last: u32, period: u32, out: &mut [u8], a
 
 // Writes the lines of the first `count` runs of the list `runs` at the start of `out`.
 pub(crate) fn write_runs(name: &[u8], runs: &[u32], count: usize, out: &mut [u8]) -> usize
-    requires name_len_bound { length name.now ≤ max_name }
-    requires count_in_bounds { 3 * count ≤ length runs.now }
-    requires count_in_bounds_2 { max_line * count ≤ length out.old }
+    requires name_fits { length name.now ≤ max_name }
+    requires runs_there { 3 * count ≤ length runs.now }
+    requires lines_fit { max_line * count ≤ length out.old }
     ensures content { Written out.old out.new 0 result (bed_lines name.now (entries_of count runs.now)) }
 {
     let mut from = 0;

@@ -10,7 +10,7 @@ pub data UpToCase (a b : ℕ) : Type 0 where
   lowered : IsCapital a → b ≡ a + 32 → UpToCase a b
   raised : IsCapital b → a ≡ b + 32 → UpToCase a b
 
--- y is x with any of its letters behind the header line, the sequence letters among them, in the other case. The header line ends at header-end.
+-- y is x with any of its letters behind the header line, the sequence letters among them, in the other case. The header line ends at header_end.
 pub record CaseChanged (x y : List ℕ) : Type 0 where
   pub header_end : ℕ
   pub ends : HeaderEnds x 0 header_end

@@ -9,7 +9,7 @@ use Rattle.fasta_record.specs.Bytes.{header_mark, line_end}
 use Rattle.fasta.specs.Case.{UpToCase, lowered, raised, CaseChanged}
 use Rattle.fasta.specs.Reader.{reader_answer, letters_of, name_end_after}
 
--- `>m`, LF, `Ac`, CR, LF, LF, `gt`: four letters.
+-- `>m`, LF, `AC`, CR, LF, LF, `gt`: four letters.
 four_letters : reader_answer (62 ∷ 109 ∷ 10 ∷ 65 ∷ 67 ∷ 13 ∷ 10 ∷ 10 ∷ 103 ∷ 116 ∷ []) max_letters ≡ accepted_with 4
 four_letters = refl
 
@@ -74,7 +74,7 @@ letter_too_many = refl
 most_letters : reader_answer (header_mark ∷ 109 ∷ line_end ∷ replicate 4096 65) max_letters ≡ accepted_with 4096
 most_letters = refl
 
--- `>m`, CR, `Ac`: the rest of the first line is ignored.
+-- `>m`, CR, `AC`: the rest of the first line is ignored.
 no_letters : reader_answer (62 ∷ 109 ∷ 13 ∷ 65 ∷ 67 ∷ []) max_letters ≡ refused_for NoLetters 5
 no_letters = refl
 

@@ -59,7 +59,7 @@ letters_written x letters c e =
     let a : AcceptedInput x c = reader_accepted x (length letters) c (ap (λ (b : Answer). b.outcome) e) in
     (written_first _ c c (letters_of x) letters e a.letters, written_rest _ c c (letters_of x) letters e a.letters)
 
--- The name of an accepted input ends where document 01 says; `recordName` is what stands between the '>' and that position.
+-- The name of an accepted input ends where document 01 says; `record_name` is what stands between the '>' and that position.
 pub accepted_name : (x : List ℕ) (places c : ℕ) → reader_answer x places ≡ accepted_with c → NameEnds x 0 (name_end x 0)
 accepted_name x places c e = (reader_accepted x places c (ap (λ (b : Answer). b.outcome) e)).name
 

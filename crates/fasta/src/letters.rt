@@ -9,8 +9,8 @@ use fasta_record::bytes::{Kind, kind_of, letter_of};
 // Puts what is handed on for the byte at `at` behind the `count` letters that `letters` holds, where
 // it is a letter, and returns how many it holds then.
 fn keep_letter(input: &[u8], at: usize, letters: &mut [u8], count: usize) -> usize
-    requires at_in_bounds { at < length input.now }
-    requires at_in_bounds_2 { count + length (letter_at input.now at) ≤ length letters.old }
+    requires byte_there { at < length input.now }
+    requires letter_fits { count + length (letter_at input.now at) ≤ length letters.old }
     ensures content { Written letters.old letters.new count result (letter_at input.now at) }
 {
     let byte = input[at];

@@ -53,8 +53,8 @@ fn answer_for(ending: Ending) -> Answer
 // Reads an input of fitting size into a buffer of fitting length: a pass that checks and stores
 // nothing, then one that stores the letters.
 fn read_record(input: &[u8], letters: &mut [u8]) -> NamedAnswer
-    requires input_len_bound { length input.now ≤ max_input }
-    requires max_letters_in_bounds { max_letters ≤ length letters.old }
+    requires input_fits { length input.now ≤ max_input }
+    requires letters_fit { max_letters ≤ length letters.old }
     ensures answer { result.answer ≡ answer_for (record_ending input.now 0) }
     ensures content { letters.new ≡ content_after result.answer (letters_of input.now) letters.old }
     ensures end { result.end ≡ name_end_after result.answer input.now }

@@ -37,12 +37,12 @@ fn write_record(
     list: &mut [u32],
     out: &mut [u8],
 ) -> usize
-    requires name_len_bound { length name.now ≤ max_name }
-    requires letters_nonzero { 0 < length letters.now }
-    requires letters_len_bound { length letters.now ≤ max_letters }
-    requires max_letters_in_bounds { work_length max_letters ≤ length work.old }
-    requires list_len { length list.old ≡ run_list_length max_letters }
-    requires max_listing_in_bounds { max_listing ≤ length out.old }
+    requires name_fits { length name.now ≤ max_name }
+    requires some_letters { 0 < length letters.now }
+    requires letters_fit { length letters.now ≤ max_letters }
+    requires work_fits { work_length max_letters ≤ length work.old }
+    requires list_length { length list.old ≡ run_list_length max_letters }
+    requires listing_fits { max_listing ≤ length out.old }
     ensures content { Written out.old out.new 0 result (bed_lines name.now (run_list letters.now)) }
 {
     let answer = runs(letters, work, list);
@@ -58,10 +58,10 @@ fn list_repeats(
     list: &mut [u32],
     out: &mut [u8],
 ) -> usize
-    requires letters_len { length letters.old ≡ max_letters }
-    requires max_letters_in_bounds { work_length max_letters ≤ length work.old }
-    requires list_len { length list.old ≡ run_list_length max_letters }
-    requires max_listing_in_bounds { max_listing ≤ length out.old }
+    requires letters_length { length letters.old ≡ max_letters }
+    requires work_fits { work_length max_letters ≤ length work.old }
+    requires list_length { length list.old ≡ run_list_length max_letters }
+    requires listing_fits { max_listing ≤ length out.old }
     ensures content { Written out.old out.new 0 result (listing_of input.now) }
 {
     let named = fasta::read_named(input, letters);

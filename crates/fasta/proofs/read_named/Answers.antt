@@ -7,4 +7,4 @@ use Rattle.fasta.proofs.read_named.Goals as goal
 pub read_record-requires : goal.read_record-requires
 read_record-requires c =
     let passed = reader_passed (length c.args.input.now) (length c.args.letters.now) c.reader-c.ensures.check c.in-Passed.is in
-    record { input_len_bound = passed.0; max_letters_in_bounds = passed.1 }
+    record { input_fits = passed.0; letters_fit = passed.1 }

@@ -24,4 +24,4 @@ write_letters-requires c =
     c.answer_for-answer.ensures.answer ∙ ap answer_for c.record_ending-found.ensures.ending in
     let w = accepted_input x c.in-Accepted.count (sym (ap (λ (a : Answer). a.outcome) answered) ∙ c.in-Accepted.is) in
     let n = ap (λ (q : ℕ). length (letters_in (drop q x))) c.after_line.ensures.result in
-    omega (arith, n, w.letters, w.most, c.requires.max_letters_in_bounds)
+    omega (arith, n, w.letters, w.most, c.requires.letters_fit)

@@ -20,12 +20,12 @@ line_fits name runs from h known =
 
 pub write_line-next-requires : goal.write_line-next-requires
 write_line-next-requires c =
-    let line = line_fits c.args.name.now c.args.runs.now c.loop-left.from c.requires.name_len_bound (λ i. omega (arith, c.type_inv.runs i)) in
+    let line = line_fits c.args.name.now c.args.runs.now c.loop-left.from c.requires.name_fits (λ i. omega (arith, c.type_inv.runs i)) in
     omega (arith, line, c.loop-left-test.true, c.loop-left.invariant.1)
 
 pub loop-left-preserved : goal.loop-left-preserved
 loop-left-preserved c =
-    let line = line_fits c.args.name.now c.args.runs.now c.loop-left.from c.requires.name_len_bound (λ i. omega (arith, c.type_inv.runs i)) in
+    let line = line_fits c.args.name.now c.args.runs.now c.loop-left.from c.requires.name_fits (λ i. omega (arith, c.type_inv.runs i)) in
     let some : 0 < c.loop-left.left = omega (arith, c.loop-left-test.true) in
     let called = c.write_line-next in (
       omega arith,
