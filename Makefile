@@ -10,14 +10,14 @@ DIVSUFSORT := $(shell $(CC) -E -include divsufsort.h -x c /dev/null > /dev/null 
 .PHONY: lib agreement example bench beside test clean
 
 lib:
-	rt staticlib lyndon_c
+	cd crates/lyndon_c && rt lib
 	mkdir -p target/lib
-	cp target/staticlib/liblyndon_c.a target/lib/liblyndon.a
+	cp crates/lyndon_c/out/liblyndon_c.a target/lib/liblyndon.a
 
 agreement:
-	rt staticlib agreement_c
+	cd crates/agreement_c && rt lib
 	mkdir -p target/lib
-	cp target/staticlib/libagreement_c.a target/lib/libagreement.a
+	cp crates/agreement_c/out/libagreement_c.a target/lib/libagreement.a
 
 example: lib
 	mkdir -p target/examples
@@ -45,4 +45,4 @@ test:
 	./run-tests
 
 clean:
-	rm -rf target
+	rm -rf target crates/*/out

@@ -12,16 +12,16 @@ here=${0%/*}/..
 echo "$*" >>"$here/calls"
 mkdir "$here/busy" || echo overlap >>"$here/calls"
 sleep 0.3
-mkdir -p target/bin
+mkdir -p out
 echo 'a note on standard output'
 echo 'a note on standard error' >&2
 if [ -e "$here/broken" ]; then
-    printf '#!/bin/sh\necho BROKEN\n' >target/bin/repeats
-    chmod +x target/bin/repeats
+    printf '#!/bin/sh\necho BROKEN\n' >out/repeats
+    chmod +x out/repeats
     rmdir "$here/busy"
     exit 1
 fi
-cp "$here/program" target/bin/repeats
+cp "$here/program" out/repeats
 rmdir "$here/busy"
 "#;
 
@@ -39,7 +39,7 @@ impl Tree {
         let folder = std::env::temp_dir().join(format!("repeats test {name} {}", std::process::id()));
         let _ = fs::remove_dir_all(&folder);
         let tree = Tree(folder);
-        for part in ["tree/crates/a/src", "tree/crates/b/src", "tree/rust", "rt", "tools"] {
+        for part in ["tree/crates/a/src", "tree/crates/b/src", "tree/crates/repeats/src", "tree/rust", "rt", "tools"] {
             create_dir_all(tree.at(part)).unwrap();
         }
         let root = Path::new(env!("CARGO_MANIFEST_DIR")).join("..");
@@ -93,7 +93,7 @@ impl Tree {
     /// How often `rt` was called; never twice at once.
     fn calls(&self) -> usize {
         let calls = read_to_string(self.at("calls")).unwrap_or_default();
-        assert!(calls.lines().all(|call| call == "check repeats"), "{calls}");
+        assert!(calls.lines().all(|call| call == "run"), "{calls}");
         calls.lines().count()
     }
 }

@@ -10,8 +10,8 @@ pub fn root() -> PathBuf {
 
 /// Where the program is.
 pub fn program() -> PathBuf {
-    let program = root().join("target/bin/repeats");
-    assert!(program.exists(), "target/bin/repeats is missing: run `rt check repeats` first");
+    let program = root().join("crates/repeats/out/repeats");
+    assert!(program.exists(), "crates/repeats/out/repeats is missing: run `rt run` in crates/repeats first");
     program
 }
 
