@@ -149,8 +149,8 @@ pub fn look_up(store: TableStore, group: u32, builtin: bool, number: u32) -> Tab
 
 // The store with a group's own table replaced.
 fn with_table(store: TableStore, group: u32, number: u32, table: &[u8]) -> TableStore
-    requires number_value { table_exists group false number ≡ true }
-    requires table_len { length table.now ≡ table_length }
+    requires exists { table_exists group false number ≡ true }
+    requires size { length table.now ≡ table_length }
     ensures store { result ≡ with_table store group number table.now }
 {
     let place = table_place(group, number);

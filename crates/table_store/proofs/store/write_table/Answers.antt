@@ -9,4 +9,4 @@ with_table-requires c =
     let passed =
     write_passed c.args.group c.args.number (length c.args.table.now) _ c.table_write-c.ensures.check c.table_exists.ensures.answer c.in-Passed.is
     in
-    record { number_value = passed.0; table_len = passed.1 }
+    record { exists = passed.0; size = passed.1 }
