@@ -43,13 +43,13 @@ table =
 in_limits : (n : ℕ) → T (leb 1 n) → T (leb n max_length) → Sized n
 in_limits n low high = record { some = lit≤ low; short = lit≤ high }
 
--- K10, K11 and K12 come out.
-from_k10 : AllComputed (drop 10 table)
-from_k10 = ((in_limits 10 tt tt, refl, refl, refl), ((in_limits 3 tt tt, crossing, refl, refl), ((in_limits 3 tt tt, refl, refl, refl), tt)))
-
 -- Every example of the table holds.
 pub table_holds : AllHold table
 unfolding folded_numbers
 table_holds =
     all_computed_hold table
     (refl, (refl, (refl, (refl, (refl, (refl, ((refl, refl), ((refl, refl), ((refl, refl), (((refl, refl), (refl, refl)), from_k10))))))))))
+  where
+    -- K10, K11 and K12 come out.
+    from_k10 : AllComputed (drop 10 table)
+    from_k10 = ((in_limits 10 tt tt, refl, refl, refl), ((in_limits 3 tt tt, crossing, refl, refl), ((in_limits 3 tt tt, refl, refl, refl), tt)))

@@ -39,11 +39,11 @@ opened a first past {r = r} {count = count} all passes verdict is =
 
 pub write_first-requires : goal.write_first-requires
 write_first-requires c =
-    (opened c.args.array.now c.args.first.now c.args.past.now c.forest-c.ensures.check c.in-Passed.is c.check-verdict.ensures.answer c.in-Accepted.is).first_room
+    (opened c.args.array.now c.args.first.now _ c.forest-c.ensures.check c.in-Passed.is c.check-verdict.ensures.answer c.in-Accepted.is).first_room
 
 pub write_past-requires : goal.write_past-requires
 write_past-requires c =
-    let o = opened c.args.array.now c.args.first.now c.args.past.now c.forest-c.ensures.check c.in-Passed.is c.check-verdict.ensures.answer c.in-Accepted.is in
+    let o = opened c.args.array.now c.args.first.now _ c.forest-c.ensures.check c.in-Passed.is c.check-verdict.ensures.answer c.in-Accepted.is in
     record {
       array_room = o.past_room;
       array_in_bounds = omega (arith, c.write_first.ensures.content.others.size, o.first_room.fits);
@@ -52,14 +52,14 @@ write_past-requires c =
 
 pub returns-in-Accepted-clause-starts : goal.returns-in-Accepted-clause-starts
 returns-in-Accepted-clause-starts c =
-    let o = opened c.args.array.now c.args.first.now c.args.past.now c.forest-c.ensures.check c.in-Passed.is c.check-verdict.ensures.answer c.in-Accepted.is in
+    let o = opened c.args.array.now c.args.first.now _ c.forest-c.ensures.check c.in-Passed.is c.check-verdict.ensures.answer c.in-Accepted.is in
     content_accepted _ _ (c.accepted.ensures.answer ∙ ap accepted_with o.known.counted) (forest_first c.args.array.now) c.args.first.now _
     (holds_written (first_for c.args.array.now) c.args.first.now (length c.args.array.now) c.write_first.new.first c.write_first.ensures.content
     o.first_room.fits)
 
 pub returns-in-Accepted-clause-ends : goal.returns-in-Accepted-clause-ends
 returns-in-Accepted-clause-ends c =
-    let o = opened c.args.array.now c.args.first.now c.args.past.now c.forest-c.ensures.check c.in-Passed.is c.check-verdict.ensures.answer c.in-Accepted.is in
+    let o = opened c.args.array.now c.args.first.now _ c.forest-c.ensures.check c.in-Passed.is c.check-verdict.ensures.answer c.in-Accepted.is in
     content_accepted _ _ (c.accepted.ensures.answer ∙ ap accepted_with o.known.counted) (forest_past c.args.array.now) c.args.past.now _
     (holds_written (past_for c.args.array.now) c.args.past.now (length c.args.array.now) c.write_past.new.past c.write_past.ensures.content
     o.past_room.fits)
