@@ -9,7 +9,6 @@ use Rattle.array.proofs.RankedLetters.{row_size}
 use Rattle.array.proofs.RunEntry.{too_short, at_text_end, run_fits, run_found}
 use borrow.Author.Rules.{rules}
 use Rattle.array.proofs.runs.list_at.Goals as goal
-use Rattle.array.proofs.runs.list_at.Goals.{then-order-ne0+else-end-k, else-order-ne0}
 
 pub returns-then-i-s : goal.returns-then-i-s
 returns-then-i-s c = search too_short
@@ -23,20 +22,12 @@ returns-then-end-k c =
 pub write_entry-requires : goal.write_entry-requires
 write_entry-requires c =
     let early : 0 < c.args.order → c.args.end + c.args.k < length (rank_row c.args.keys.now c.args.text.now) =
-    λ h. elim c.if-order-ne0.branch [
-      | then-order-ne0+else-end-k r ↦ omega (arith, c.requires.at_root.exact.within, row_size c.args.keys.now c.args.text.now)
-      | else-order-ne0 r ↦ absurd (omega (arith, h))
-    ]
-    in
+    λ h. grind (arith, c.requires.at_root.exact.within, row_size c.args.keys.now c.args.text.now) in
     let room : 3 * c.args.count + 3 ≤ length c.args.list.now = search run_fits in
     search rules
 
 pub returns : goal.returns
 returns c =
     let early : 0 < c.args.order → c.args.end + c.args.k < length (rank_row c.args.keys.now c.args.text.now) =
-    λ h. elim c.if-order-ne0.branch [
-      | then-order-ne0+else-end-k r ↦ omega (arith, c.requires.at_root.exact.within, row_size c.args.keys.now c.args.text.now)
-      | else-order-ne0 r ↦ absurd (omega (arith, h))
-    ]
-    in
+    λ h. grind (arith, c.requires.at_root.exact.within, row_size c.args.keys.now c.args.text.now) in
     record { content = search run_found }
