@@ -1,7 +1,8 @@
 //! docs/READING.md names only what exists: files, definitions, functions, must-fail edits, and line counts.
 //!
-//! What stands in backquotes there is a path or a name. `words/Lyndon` is crates/words/specs/Lyndon.antt, `array::bytes::lyndon_array` a
-//! function of crates/array/src, `array/one_order_only` a must-fail edit, any other path one of the repository. A name must be declared in
+//! What stands in backquotes there is a path or a name. `words/Lyndon` is crates/words/specs/Lyndon.antt, `words/proofs/RunsTheorem` is
+//! crates/words/proofs/RunsTheorem.antt, `array::bytes::lyndon_array` a function of crates/array/src, `array/one_order_only` a must-fail edit,
+//! any other path one of the repository. A name must be declared in
 //! the file or files named last before it in the same table cell or paragraph, or, where none is, in some crate. Anything else is code.
 
 use std::collections::HashMap;
@@ -10,6 +11,16 @@ use std::path::{Path, PathBuf};
 
 /// Words in backquotes that are no name of the project: parts of the two languages, and texts of documents 01 and 02.
 const NOT_NAMES: &[&str] = &["requires", "match", "refl", "break", "main", "specs", "aabaab", "AAbaab", "rt", "cond"];
+
+/// The files with the proofs of functions, which no reader need look at. What else stands in proofs/ are laws, and some theorems.
+const PROOFS_OF_FUNCTIONS: &[&str] = &["Answers.antt", "Invariants.antt"];
+
+/// The file that a path of docs/READING.md names: of specs/, or of proofs/ where the path says so.
+fn definitions(root: &Path, word: &str) -> PathBuf {
+    let (first, rest) = word.split_once('/').unwrap();
+    let place = root.join("crates").join(first);
+    if rest.starts_with("proofs/") { place.join(rest) } else { place.join("specs").join(rest) }.with_extension("antt")
+}
 
 fn root() -> PathBuf {
     Path::new(env!("CARGO_MANIFEST_DIR")).parent().unwrap().to_path_buf()
@@ -39,7 +50,7 @@ fn quoted(text: &str) -> Vec<&str> {
 /// A letter, then letters, digits and the marks that names have.
 fn is_name(word: &str) -> bool {
     let mut letters = word.chars();
-    letters.next().is_some_and(char::is_alphabetic) && word.chars().all(|c| c.is_alphanumeric() || "-_′".contains(c))
+    letters.next().is_some_and(char::is_alphabetic) && word.chars().all(|c| c.is_alphanumeric() || "-_'".contains(c))
 }
 
 /// Whether a file declares the name: a line that begins with it after marks, or lists it as a constructor or a field.
@@ -61,7 +72,8 @@ fn reading_names_what_exists() {
     let root = root();
     let mut sources = Vec::new();
     files(&root.join("crates"), &["antt", "rt"], &mut sources);
-    sources.retain(|p| !p.components().any(|c| c.as_os_str() == "proofs"));
+    let below = |p: &Path, folder: &str| p.components().any(|c| c.as_os_str() == folder);
+    sources.retain(|p| !below(p, "out") && !(below(p, "proofs") && PROOFS_OF_FUNCTIONS.iter().any(|name| p.ends_with(name))));
     let texts: HashMap<PathBuf, String> = sources.into_iter().map(|p| (p.clone(), read(&p))).collect();
 
     let mut wrong = Vec::new();
@@ -91,7 +103,7 @@ fn reading_names_what_exists() {
                 } else if word.contains('/') && !word.contains(' ') {
                     names += 1;
                     let (first, rest) = word.split_once('/').unwrap();
-                    let spec = root.join("crates").join(first).join("specs").join(rest).with_extension("antt");
+                    let spec = definitions(&root, word);
                     let edit = root.join("crates").join(first).join("must-fail").join(rest).with_extension("edit");
                     if let Some((path, _)) = texts.get_key_value(&spec) {
                         if !after_path {
@@ -130,6 +142,7 @@ fn reading_names_every_public_function() {
     let named: Vec<&str> = quoted(&reading).into_iter().filter_map(|word| word.rsplit_once("::")).map(|(_, name)| name).collect();
     let mut sources = Vec::new();
     files(&root.join("crates"), &["rt"], &mut sources);
+    sources.retain(|p| !p.components().any(|c| c.as_os_str() == "out"));
     let mut count = 0;
     for source in sources {
         for line in read(&source).lines() {
@@ -154,9 +167,7 @@ fn reading_list_counts_lines() {
         let Some(Ok(count)) = cells.get(cells.len().saturating_sub(2)).map(|c| c.parse::<usize>()) else { continue };
         match quoted(cells[1]).first() {
             Some(word) => {
-                let (first, rest) = word.split_once('/').unwrap();
-                let path = root.join("crates").join(first).join("specs").join(rest).with_extension("antt");
-                assert_eq!(read(&path).lines().count(), count, "lines of {word}");
+                assert_eq!(read(&definitions(&root, word)).lines().count(), count, "lines of {word}");
                 sum += count;
             }
             None => total = Some(count),
