@@ -15,7 +15,7 @@ use checks::Check;
 
 // Every position has itself.
 fn write_own(first: &mut [u32], n: usize)
-    requires n_le_max_length { n ≤ max_length }
+    requires n_short { n ≤ max_length }
     requires n_in_bounds { n ≤ length first.old }
     ensures content { Holds (λ j. j) n first.old first.new }
 {
@@ -42,8 +42,9 @@ fn write_first(array: &[u32], first: &mut [u32])
 // What PAST has at `j`: the end of its span, or itself where FIRST has itself.
 fn past_at(array: &[u32], first: u32, j: usize) -> u32
     requires valid { Valid array.now }
-    requires array_len_bound { (length array.now ≤ max_length) × (j < length array.now) }
-    requires first_value { first ≡ first_for array.now j }
+    requires short { length array.now ≤ max_length }
+    requires j_in_bounds { j < length array.now }
+    requires first_is { first ≡ first_for array.now j }
     ensures result { result ≡ past_for array.now j }
 {
     let own = j as u32;
@@ -56,8 +57,8 @@ fn past_at(array: &[u32], first: u32, j: usize) -> u32
 // PAST, from FIRST.
 fn write_past(array: &[u32], first: &[u32], past: &mut [u32])
     requires array_room { ArrayRoom array.now past.old }
-    requires array_in_bounds { length array.now ≤ length first.now }
-    requires by_index { (j : ℕ) → j < length array.now → get_or first.now j 0 ≡ first_for array.now j }
+    requires first_long { length array.now ≤ length first.now }
+    requires first_holds { (j : ℕ) → j < length array.now → get_or first.now j 0 ≡ first_for array.now j }
     ensures content { Holds (past_for array.now) (length array.now) past.old past.new }
 {
     let mut j = 0;

@@ -29,9 +29,9 @@ fn same(a: &[u32], b: &[u32]) -> bool
 
 // `reconstruct` answers with the number and value, and leaves `wanted` in the text buffer.
 fn expect_text(array: &[u32], text: &mut [u32], said: u32, with: u32, wanted: &[u32])
-    requires text_value { number (reconstruct_answer array.now (length text.old)) ≡ said }
-    requires text_value_2 { value (reconstruct_answer array.now (length text.old)) ≡ «with» }
-    requires text_value_3 { text_after array.now text.old ≡ wanted.now }
+    requires number_said { number (reconstruct_answer array.now (length text.old)) ≡ said }
+    requires value_said { value (reconstruct_answer array.now (length text.old)) ≡ «with» }
+    requires text_left { text_after array.now text.old ≡ wanted.now }
 {
     let answer = from_array::reconstruct(array, text);
     expect(answer::number(answer) == said);
@@ -49,10 +49,10 @@ fn expect_forest(
     wanted_first: &[u32],
     wanted_past: &[u32],
 )
-    requires past_value { number (right_forest_answer array.now (length first.old) (length past.old)) ≡ said }
-    requires past_value_2 { value (right_forest_answer array.now (length first.old) (length past.old)) ≡ «with» }
-    requires past_value_3 { right_first_after array.now first.old past.old ≡ wanted_first.now }
-    requires past_value_4 { right_past_after array.now first.old past.old ≡ wanted_past.now }
+    requires number_said { number (right_forest_answer array.now (length first.old) (length past.old)) ≡ said }
+    requires value_said { value (right_forest_answer array.now (length first.old) (length past.old)) ≡ «with» }
+    requires first_left { right_first_after array.now first.old past.old ≡ wanted_first.now }
+    requires past_left { right_past_after array.now first.old past.old ≡ wanted_past.now }
 {
     let answer = from_array::right_forest(array, first, past);
     expect(answer::number(answer) == said);

@@ -46,8 +46,8 @@ write_past-requires c =
     let o = opened c.args.array.now c.args.first.now _ c.forest-c.ensures.check c.in-Passed.is c.check-verdict.ensures.answer c.in-Accepted.is in
     record {
       array_room = o.past_room;
-      array_in_bounds = omega (arith, c.write_first.ensures.content.others.size, o.first_room.fits);
-      by_index = c.write_first.ensures.content.value;
+      first_long = omega (arith, c.write_first.ensures.content.others.size, o.first_room.fits);
+      first_holds = c.write_first.ensures.content.value;
     }
 
 pub returns-in-Accepted-clause-starts : goal.returns-in-Accepted-clause-starts
