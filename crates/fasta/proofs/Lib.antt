@@ -1,1 +1,4 @@
 pub mod Reading
+pub mod Laws
+pub mod RowTheorems
+pub mod CaseTheorems

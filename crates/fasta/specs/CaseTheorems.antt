@@ -1,34 +1,17 @@
--- The reader hands on capitals only, and the case of a sequence letter changes nothing (document 02, E2).
+-- The case of a sequence letter changes nothing (document 02, E2). That the reader hands on capitals only, and one name, stands in
+-- `proofs/CaseTheorems`.
 -- Assumes nothing.
-use Rattle.std.specs.Prelude.{◌≡◌, refl, List, ℕ, ◌+◌, ◌-◌, ◌≤◌, ◌<◌, length, get_or, take, drop}
-use Rattle.std.proofs.Common.{sym, ap, ap₂, ◌∙◌, arith, length-drop, get_or-drop}
-use Rattle.words.specs.Laws.Word.{take_alike}
+use Rattle.std.specs.Prelude.{◌≡◌, refl, List, ℕ, length}
+use Rattle.std.proofs.Common.{ap, ap₂, ◌∙◌}
 use Rattle.answer.specs.declared.Answer.{Answer}
 use Rattle.answer.specs.declared.Outcome.{Outcome}
 use Rattle.answer.specs.declared.Outcome.TheVariants.{Accepted, Refused}
-use Rattle.answer.specs.Answers.{accepted_with}
 use Rattle.answer.specs.AfterCall.{content_after}
-use Rattle.answer.specs.ContentLaws.{written_value}
 use Rattle.checks.specs.Checks.{reader_checked}
 use Rattle.fasta_record.specs.declared.lines.Ending.{Ending}
-use Rattle.fasta_record.specs.Record.{lines_start, name_end, record_name}
-use Rattle.fasta.specs.Classes.{IsCapital}
 use Rattle.fasta.specs.Case.{CaseChanged}
 use Rattle.fasta.specs.Reader.{answer_for, reader_answer, letters_of, letters_after, name_end_in, name_end_after}
-use Rattle.fasta.specs.Rows.{NameEnds}
-use Rattle.fasta.specs.RowTheorems.{accepted_mark, accepted_name}
-use Rattle.fasta.specs.Laws.NameBytes.{name_in_header}
-use Rattle.fasta.specs.Laws.Accepted.{AcceptedInput, reader_accepted}
-use Rattle.fasta.specs.Laws.Case.{PartsUpToCase, letters_capitals, case_parts, ending_same, letters_of_same, name_end_same}
-
--- "The reader hands on capitals only": in the buffer of an accepted input, each of the places written holds one.
-pub capitals_written :
-    (x letters : List ℕ) (c : ℕ) → reader_answer x (length letters) ≡ accepted_with c
-    → (k : ℕ) → k < c → IsCapital (get_or (letters_after x letters) k 0)
-capitals_written x letters c e k h =
-    let a : AcceptedInput x c = reader_accepted x (length letters) c (ap (λ (b : Answer). b.outcome) e) in
-    let l : k < length (letters_of x) = omega (arith, a.letters) in
-    rw e (rw (written_value (letters_of x) letters k l) (letters_capitals (drop (lines_start x 0) x) k l))
+use Rattle.fasta.specs.Laws.Case.{PartsUpToCase, case_parts, ending_same, letters_of_same, name_end_same}
 
 -- An input x, and x with any of its sequence letters in the other case,
 module _ {x y : List ℕ} (c : CaseChanged x y) where
@@ -48,20 +31,10 @@ module _ {x y : List ℕ} (c : CaseChanged x y) where
   case_content letters =
       ap₂ (λ (a : Answer) (l : List ℕ). content_after a l letters) (case_answer (length letters)) case_letters
 
-  -- one end of the name
+  -- and one end of the name. Accepted, they have one name: `case_name` of `proofs/CaseTheorems`.
   pub case_name_end : (places : ℕ) → name_end_after (reader_answer x places) x ≡ name_end_after (reader_answer y places) y
   case_name_end places = ap (λ (a : Answer). name_end_after a x) (case_answer places) ∙ go (reader_answer y places).outcome
     where
       go : (o : Outcome) → name_end_in o x ≡ name_end_in o y
       go (Accepted count comparisons) = name_end_same parts 0
       go (Refused reason position) = refl
-
-  -- and, accepted, one name.
-  pub case_name : (places n : ℕ) → reader_answer x places ≡ accepted_with n → record_name x 0 ≡ record_name y 0
-  case_name places n e =
-      let name : NameEnds x 0 (name_end x 0) = accepted_name x places n e in
-      let within : name_end x 0 ≤ c.header_end = name_in_header (accepted_mark x places n e) name c.ends in
-      take_alike 0 (drop 1 x) (drop 1 y) (name_end x 0 - 1) (omega (arith, length-drop 1 x, name.up_to.within))
-      (omega (arith, length-drop 1 y, c.size, name.up_to.within))
-      (λ k l. get_or-drop 1 x k 0 ∙ c.header (1 + k) (omega arith) ∙ sym (get_or-drop 1 y k 0))
-      ∙ ap (λ (q : ℕ). take (q - 1) (drop 1 y)) (name_end_same parts 0)

@@ -7,7 +7,6 @@ pub mod NameBytes
 pub mod LineRows
 pub mod HeaderLine
 pub mod RecordRows
-pub mod Positions
 pub mod Accepted
 pub mod CheckOrder
 pub mod OneAnswer

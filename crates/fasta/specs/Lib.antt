@@ -6,5 +6,4 @@ pub mod Case
 pub mod CheckOrder
 pub mod Examples
 pub mod Laws
-pub mod RowTheorems
 pub mod CaseTheorems

@@ -20,8 +20,9 @@ use Rattle.fasta.specs.Rows.{NameEnds, HeaderEnds, sequence_letters}
 use Rattle.fasta.specs.CheckOrder.{Refuses, Accepts}
 use Rattle.fasta.specs.Case.{CaseChanged}
 use Rattle.fasta.specs.Reader.{reader_answer, letters_of}
-use Rattle.fasta.specs.RowTheorems.{refused_exactly, accepted_exactly, accepted_uncompared, letters_are, accepted_name}
-use Rattle.fasta.specs.CaseTheorems.{case_answer, case_letters, case_name}
+use Rattle.fasta.proofs.RowTheorems.{refused_exactly, accepted_exactly, accepted_uncompared, letters_are, accepted_name}
+use Rattle.fasta.specs.CaseTheorems.{case_answer, case_letters}
+use Rattle.fasta.proofs.CaseTheorems.{case_name}
 use Rattle.fasta.specs.Laws.NameBytes.{name_unique}
 use Rattle.bed.specs.Bed.{bed_lines}
 use Rattle.bed.specs.Refusal.{refusal_line}

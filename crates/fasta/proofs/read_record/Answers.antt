@@ -8,8 +8,8 @@ use Rattle.answer.specs.declared.Answer.{Answer}
 use Rattle.fasta.specs.Letters.{letters_in}
 use Rattle.fasta_record.specs.Record.{record_ending}
 use Rattle.fasta.specs.Reader.{answer_for, ending_position}
-use Rattle.fasta.specs.Laws.Positions.{ending_within}
-use Rattle.fasta.specs.Laws.Accepted.{accepted_input}
+use Rattle.fasta.proofs.Laws.Positions.{ending_within}
+use Rattle.fasta.proofs.Laws.Accepted.{accepted_input}
 use Rattle.fasta.proofs.read_record.Goals as goal
 
 pub answer_for-answer-requires : goal.answer_for-answer-requires

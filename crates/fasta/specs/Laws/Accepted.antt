@@ -1,24 +1,21 @@
--- What holds of an input that the reader accepts.
+-- What holds of an input that the reader accepts. That it does hold, `accepted_input` and `reader_accepted`, stands in `proofs/Laws/Accepted`.
 -- Assumes nothing.
-use Rattle.std.specs.Prelude.{◌≡◌, refl, Bool, true, false, List, ℕ, ◌≤◌, ◌<◌, ltb, eqb, length, take, drop}
-use Rattle.std.proofs.Common.{sym, ap, subst, ◌∙◌, arith, take_at}
+use Rattle.std.specs.Prelude.{◌≡◌, refl, Bool, true, false, List, ℕ, ◌≤◌, ◌<◌, eqb, length, take, drop}
+use Rattle.std.proofs.Common.{sym, ap, subst, arith, take_at}
 use Rattle.std.proofs.lemmas.Bool.{eqb-false}
-use Rattle.std.proofs.lemmas.List.{length-map}
 use Rattle.std.proofs.Math.Seq.{take-length}
-use Rattle.answer.specs.declared.Reason.TheVariants.{ShortOutput, NoLetters, FileTooLong}
+use Rattle.answer.specs.declared.Reason.TheVariants.{NoLetters}
 use Rattle.answer.specs.declared.Outcome.TheVariants.{Accepted}
 use Rattle.answer.specs.Answers.{accepted_with, accepted_apart, refused_if}
 use Rattle.answer.specs.AfterCall.{written}
-use Rattle.answer.specs.Limits.{max_letters, max_input}
+use Rattle.answer.specs.Limits.{max_letters}
 use Rattle.fasta_record.specs.declared.lines.Ending.{Ending}
 use Rattle.fasta_record.specs.declared.lines.Ending.TheVariants.{RefusedAt, NextRecord, Finished}
-use Rattle.fasta_record.specs.Bytes.{letter_of}
-use Rattle.fasta_record.specs.Record.{record_ending, name_end}
-use Rattle.fasta.specs.Reader.{answer_for, reader_answer, letters_of}
+use Rattle.fasta_record.specs.Record.{name_end}
+use Rattle.fasta.specs.Reader.{answer_for, letters_of}
 use Rattle.fasta.specs.Rows.{NameEnds, sequence_letters, in_lines}
 use Rattle.fasta.specs.Laws.LineRows.{letters_most}
-use Rattle.fasta.specs.Laws.HeaderLine.{record_letters_lem}
-use Rattle.fasta.specs.Laws.RecordRows.{line_pass, ReadToEnd, RecordSays, record_says}
+use Rattle.fasta.specs.Laws.RecordRows.{line_pass, ReadToEnd}
 
 -- What is known of an accepted input x of count letters.
 pub record AcceptedInput (x : List ℕ) (count : ℕ) : Type 0 where
@@ -28,7 +25,7 @@ pub record AcceptedInput (x : List ℕ) (count : ℕ) : Type 0 where
   pub name : NameEnds x 0 (name_end x 0)
 
 -- An ending that is accepted is the input's end, after some letters.
-finished_accepted :
+pub finished_accepted :
     (e : Ending) (count : ℕ) {comparisons : ℕ} → (answer_for e).outcome ≡ Accepted count comparisons → (q : ℕ) × (e ≡ Finished count q) × (0 < count)
 finished_accepted (RefusedAt r p) count h = absurd (accepted_apart (sym h))
 finished_accepted (NextRecord n p) count h = absurd (accepted_apart (sym h))
@@ -43,41 +40,13 @@ finished_accepted (Finished n p) count {comparisons} h = go (eqb n 0) refl h
         (p, ap (λ (m : ℕ). Finished m p) z, omega arith)
 
 -- An input whose record is read to its end has not too many letters.
-whole_most : {x : List ℕ} {n c q : ℕ} → ReadToEnd x 0 n c q → c ≤ max_letters
+pub whole_most : {x : List ℕ} {n c q : ℕ} → ReadToEnd x 0 n c q → c ≤ max_letters
 whole_most {x} w =
     let m : length (sequence_letters (take (length x) x) w.header_end) ≤ max_letters =
     letters_most x w.header_end (length x) (omega arith) (λ k h r l. w.no_earlier r k (omega (arith, line_pass l)) (in_lines w.ends l)) in
     let n : length (sequence_letters x w.header_end) ≤ max_letters =
     subst (λ (l : List ℕ). length (sequence_letters l w.header_end) ≤ max_letters) (take-length x) m in
     omega (arith, w.counted)
-
--- What is known of an input whose record is accepted.
-pub accepted_input : (x : List ℕ) (count : ℕ) {comparisons : ℕ} → (answer_for (record_ending x 0)).outcome ≡ Accepted count comparisons → AcceptedInput x count
-accepted_input x count h =
-    let f : (q : ℕ) × (record_ending x 0 ≡ Finished count q) × (0 < count) = finished_accepted (record_ending x 0) count h in
-    let w : ReadToEnd x 0 (name_end x 0) count f.0 = subst (RecordSays x 0 (name_end x 0)) f.1 (record_says x 0 (omega arith)) in
-    record {
-      letters =
-          ap length (record_letters_lem x 0 w.header_end (omega arith) w.ends)
-          ∙ length-map (sequence_letters x w.header_end) letter_of
-          ∙ sym w.counted;
-      some = f.2;
-      most = whole_most w;
-      name = w.name;
-    }
-
--- What is known of an input that the reader accepts.
-pub reader_accepted : (x : List ℕ) (places count : ℕ) {comparisons : ℕ} → (reader_answer x places).outcome ≡ Accepted count comparisons →
-    AcceptedInput x count
-reader_accepted x places count {comparisons} h = go (ltb places max_letters) (ltb max_input (length x)) h
-  where
-    go : (s t : Bool)
-        → (refused_if s ShortOutput 0 (refused_if t FileTooLong max_input (answer_for (record_ending x 0)))).outcome
-        ≡ Accepted count comparisons
-        → AcceptedInput x count
-    go true t e = absurd (accepted_apart (sym e))
-    go false true e = absurd (accepted_apart (sym e))
-    go false false e = accepted_input x count e
 
 -- The letters of an accepted input are what the buffer begins with.
 pub letters_first : (x : List ℕ) (count : ℕ) → AcceptedInput x count → (before : List ℕ) → take count (written (letters_of x) before) ≡ letters_of x

@@ -1,7 +1,7 @@
--- The reader's answer is the one that the rows give.
+-- The reader's answer is the one that the rows give, by what the checks say. The whole, `reader_says`, stands in `proofs/Laws/CheckOrder`.
 -- Assumes nothing.
-use Rattle.std.specs.Prelude.{◌≡◌, refl, Bool, true, false, List, [], ◌∷◌, ℕ, ◌≤◌, ◌<◌, ltb, eqb, length}
-use Rattle.std.proofs.Common.{arith, ltb-true, ltb-false, eqb-true}
+use Rattle.std.specs.Prelude.{◌≡◌, refl, Bool, true, false, List, [], ◌∷◌, ℕ, ◌≤◌, ◌<◌, eqb, length}
+use Rattle.std.proofs.Common.{arith, eqb-true}
 use Rattle.std.proofs.lemmas.Bool.{eqb-false}
 use Rattle.answer.specs.declared.Reason.{Reason}
 use Rattle.answer.specs.declared.Reason.TheVariants.{ShortOutput, NoLetters, FileTooLong}
@@ -9,11 +9,10 @@ use Rattle.answer.specs.Answers.{accepted_with, refused_if}
 use Rattle.answer.specs.Limits.{max_letters, max_input}
 use Rattle.fasta_record.specs.declared.lines.Ending.{Ending}
 use Rattle.fasta_record.specs.declared.lines.Ending.TheVariants.{RefusedAt, NextRecord, Finished}
-use Rattle.fasta_record.specs.Record.{record_ending, name_end}
-use Rattle.fasta.specs.Reader.{answer_for, reader_answer}
+use Rattle.fasta.specs.Reader.{answer_for}
 use Rattle.fasta.specs.Rows.{sequence_letters, RecordRow, no_letters, Row, short_buffer, long_input, in_record}
 use Rattle.fasta.specs.CheckOrder.{EarlierCheck, FirstOf, Refuses, Accepts, HasAnswer}
-use Rattle.fasta.specs.Laws.RecordRows.{earlier_pass, earlier_position, record_pass, last_only, ReadToEnd, RecordSays, record_says}
+use Rattle.fasta.specs.Laws.RecordRows.{earlier_pass, earlier_position, record_pass, last_only, ReadToEnd, RecordSays}
 
 no_length : (l : List ℕ) → length l ≡ 0 → l ≡ []
 no_length [] e = refl
@@ -21,7 +20,7 @@ no_length (a ∷ l) e = absurd (omega arith)
 
 module _ (x : List ℕ) (places : ℕ) where
   -- Refusal 4.
-  short_first : places < max_letters → Refuses x places ShortOutput 0
+  pub short_first : places < max_letters → Refuses x places ShortOutput 0
   short_first h = record { holds = short_buffer h; no_earlier = none }
     where
       none : (r : Reason) (p : ℕ) → EarlierCheck r p ShortOutput 0 → ¬ Row x places r p
@@ -30,7 +29,7 @@ module _ (x : List ℕ) (places : ℕ) where
       none r p l (in_record w) = omega (arith, earlier_pass l, record_pass w)
 
   -- Refusal 15.
-  long_first : max_letters ≤ places → max_input < length x → Refuses x places FileTooLong max_input
+  pub long_first : max_letters ≤ places → max_input < length x → Refuses x places FileTooLong max_input
   long_first h i = record { holds = long_input i; no_earlier = none }
     where
       none : (r : Reason) (p : ℕ) → EarlierCheck r p FileTooLong max_input → ¬ Row x places r p
@@ -61,7 +60,7 @@ module _ (x : List ℕ) (places : ℕ) where
     accepts w n =
         record { no_row = λ r p. record_only (λ k. n (last_only w k).2); header_end = w.header_end; ends = w.ends; counted = w.counted }
 
-    answer_says : (n : ℕ) (e : Ending) → RecordSays x 0 n e → HasAnswer x places (answer_for e)
+    pub answer_says : (n : ℕ) (e : Ending) → RecordSays x 0 n e → HasAnswer x places (answer_for e)
     answer_says n (RefusedAt r p) f = record_first f
     answer_says n (NextRecord c p) f = record_first f
     answer_says n (Finished c p) w = go (eqb c 0) refl
@@ -71,15 +70,3 @@ module _ (x : List ℕ) (places : ℕ) where
             let e : p ≡ length x = w.place in
             rw e (record_first (none_first w (eqb-true c 0 h)))
         go false h = (accepts w (eqb-false c 0 h), refl)
-
-  -- The reader's answer is that of the rows.
-  pub reader_says : HasAnswer x places (reader_answer x places)
-  reader_says = go (ltb places max_letters) (ltb max_input (length x)) refl refl
-    where
-      go : (s t : Bool) → ltb places max_letters ≡ s → ltb max_input (length x) ≡ t
-          → HasAnswer x places
-          (refused_if s ShortOutput 0 (refused_if t FileTooLong max_input (answer_for (record_ending x 0))))
-      go true t h i = short_first (ltb-true places max_letters h)
-      go false true h i = long_first (ltb-false places max_letters h) (ltb-true max_input (length x) i)
-      go false false h i =
-          answer_says (ltb-false places max_letters h) (ltb-false max_input (length x) i) (name_end x 0) (record_ending x 0) (record_says x 0 (omega arith))

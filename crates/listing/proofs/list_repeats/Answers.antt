@@ -15,7 +15,8 @@ use Rattle.array.specs.Calls.{run_list}
 use Rattle.fasta_record.specs.Record.{name_end}
 use Rattle.fasta.specs.Reader.{reader_answer, letters_of, name_end_in, name_end_after}
 use Rattle.fasta.specs.Rows.{NameEnds}
-use Rattle.fasta.specs.Laws.Accepted.{AcceptedInput, reader_accepted, letters_first}
+use Rattle.fasta.specs.Laws.Accepted.{AcceptedInput, letters_first}
+use Rattle.fasta.proofs.Laws.Accepted.{reader_accepted}
 use Rattle.bed.specs.Bed.{bed_lines}
 use Rattle.bed.specs.Refusal.{refusal_line}
 use Rattle.bed.specs.Laws.Refusal.{refusal_fits}

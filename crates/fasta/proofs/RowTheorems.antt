@@ -15,10 +15,11 @@ use Rattle.fasta_record.specs.Record.{lines_start, name_end}
 use Rattle.fasta.specs.Reader.{reader_answer, letters_of, letters_after}
 use Rattle.fasta.specs.Rows.{Stands, NameEnds, HeaderEnds, sequence_letters, no_header, in_record}
 use Rattle.fasta.specs.CheckOrder.{Refuses, Accepts, HasOutcome, HasAnswer}
-use Rattle.fasta.specs.Laws.Accepted.{AcceptedInput, reader_accepted}
+use Rattle.fasta.specs.Laws.Accepted.{AcceptedInput}
+use Rattle.fasta.proofs.Laws.Accepted.{reader_accepted}
 use Rattle.fasta.specs.Laws.Stands.{StartSays, start_says}
 use Rattle.fasta.specs.Laws.HeaderLine.{header_unique, LinesBegin, lines_begin, record_letters_lem}
-use Rattle.fasta.specs.Laws.CheckOrder.{reader_says}
+use Rattle.fasta.proofs.Laws.CheckOrder.{reader_says}
 use Rattle.fasta.specs.Laws.OneAnswer.{answer_unique}
 
 module _ (x : List ℕ) (places : ℕ) where

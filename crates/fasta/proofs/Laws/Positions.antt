@@ -9,7 +9,8 @@ use Rattle.fasta_record.specs.Record.{record_ending, name_end}
 use Rattle.fasta.specs.Reader.{ending_position}
 use Rattle.fasta.specs.Rows.{RecordRow, no_header, bad_name, in_lines, no_letters}
 use Rattle.fasta.specs.Laws.HeaderLine.{row_in_lines}
-use Rattle.fasta.specs.Laws.RecordRows.{RecordSays, record_says}
+use Rattle.fasta.specs.Laws.RecordRows.{RecordSays}
+use Rattle.fasta.proofs.Laws.RecordRows.{record_says}
 
 -- The position of a row is within the input.
 row_within : {x : List ℕ} {s p : ℕ} {r : Reason} → s ≤ length x → RecordRow x s r p → p ≤ length x

@@ -1,0 +1,5 @@
+pub mod NameRows
+pub mod RecordRows
+pub mod Positions
+pub mod Accepted
+pub mod CheckOrder
