@@ -7,13 +7,13 @@ use Rattle.left_forest.proofs.grow.Goals as goal
 -- PAST holds the suffix table.
 pub link-last-requires : goal.link-last-requires
 link-last-requires c =
-    let tabled = suffix_table_tabled _ _ _ _ _ _ c.requires _ c.suffix_table_ranked.ensures.answer c.suffix_table_ranked.ensures.content in
-    ranked_linkable _ _ _ _ _ _ c.requires tabled
+    let table = suffix_table_tabled _ _ _ _ _ _ c.requires _ c.suffix_table_ranked.ensures.answer c.suffix_table_ranked.ensures.content in
+    ranked_linkable _ _ _ _ _ _ c.requires table
 
 pub mark_roots-requires : goal.mark_roots-requires
-mark_roots-requires c =
-    let tabled = suffix_table_tabled _ _ _ _ _ _ c.requires _ c.suffix_table_ranked.ensures.answer c.suffix_table_ranked.ensures.content in
-    ranked_descends _ _ _ _ _ _ c.requires tabled _ _ _ c.link-last.ensures.content
+mark_roots-requires c = ranked_descends _ _ _ _ _ _ c.requires
+    (suffix_table_tabled _ _ _ _ _ _ c.requires _ c.suffix_table_ranked.ensures.answer c.suffix_table_ranked.ensures.content)
+    _ _ _ c.link-last.ensures.content
 
 pub returns : goal.returns
 returns c =

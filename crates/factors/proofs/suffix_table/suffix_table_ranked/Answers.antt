@@ -18,9 +18,10 @@ fill_in-requires c =
     (ranked_known c.args.order c.args.table.now c.args.text.now c.args.out.now c.ranked_text-c.ensures.check c.in-Passed.is).0
 
 pub overflow_cast-n : goal.overflow_cast-n
-overflow_cast-n c =
-    let known = ranked_known c.args.order c.args.table.now c.args.text.now c.args.out.now c.ranked_text-c.ensures.check c.in-Passed.is in
-    omega (arith, known.0.short)
+overflow_cast-n c = omega (
+  arith,
+  (ranked_known c.args.order c.args.table.now c.args.text.now c.args.out.now c.ranked_text-c.ensures.check c.in-Passed.is).0.short,
+)
 
 -- The table of the row of the order is there.
 pub returns-in-Passed-clause-content : goal.returns-in-Passed-clause-content
