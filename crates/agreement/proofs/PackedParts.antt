@@ -60,7 +60,7 @@ pub record AgreeFrom (u v : List ℕ) (k x y r : ℕ) : Type 0 where
 -- It is so where they agree below k, x and y are the numbers of their eight bytes from there on, and r of these bytes agree.
 pub agree_from : (u v : List ℕ) (k x y r : ℕ) → AlikeBelow u v k → k + 8 ≤ length u → k + 8 ≤ length v → Bytes u → Bytes v →
     x ≡ packed (take 8 (drop k u)) → y ≡ packed (take 8 (drop k v)) → r ≡ common_prefix (unpacked 8 x) (unpacked 8 y) → AgreeFrom u v k x y r
-agree_from u v k x y r w p q bytes-u bytes-v is_x is_y e =
+agree_from u v k x y r w p q bytes_u bytes_v is_x is_y e =
     record { alike = alike_part u v k 8 r w p q parts; few = λ d. go d (dec_lt r 8) }
   where
     size : (z : List ℕ) → k + 8 ≤ length z → length (take 8 (drop k z)) ≡ 8
@@ -69,7 +69,7 @@ agree_from u v k x y r w p q bytes-u bytes-v is_x is_y e =
     parts : r ≡ common_prefix (take 8 (drop k u)) (take 8 (drop k v))
     parts =
         e ∙ ap₂ (λ (a b : ℕ). common_prefix (unpacked 8 a) (unpacked 8 b)) is_x is_y ∙
-        eight_unpacked (take 8 (drop k u)) (take 8 (drop k v)) (size u p) (size v q) (part_bytes u k 8 bytes-u) (part_bytes v k 8 bytes-v)
+        eight_unpacked (take 8 (drop k u)) (take 8 (drop k v)) (size u p) (size v q) (part_bytes u k 8 bytes_u) (part_bytes v k 8 bytes_v)
 
     same : 8 ≤ r → x ≡ y
     same l =

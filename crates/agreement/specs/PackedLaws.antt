@@ -84,13 +84,13 @@ unpacked_packed (a ∷ u) bytes =
     (ap (unpacked (length u)) rest ∙ unpacked_packed u (record { byte = λ i. bytes.byte (suc i) }))
 
 -- Two rows of eight bytes.
-module _ (u v : List ℕ) (p : length u ≡ 8) (q : length v ≡ 8) (bytes-u : Bytes u) (bytes-v : Bytes v) where
+module _ (u v : List ℕ) (p : length u ≡ 8) (q : length v ≡ 8) (bytes_u : Bytes u) (bytes_v : Bytes v) where
   -- They agree on as many bytes as their numbers do.
   pub eight_unpacked : common_prefix (unpacked 8 (packed u)) (unpacked 8 (packed v)) ≡ common_prefix u v
   eight_unpacked =
       ap₂ common_prefix
-      (ap (λ (m : ℕ). unpacked m (packed u)) (sym p) ∙ unpacked_packed u bytes-u)
-      (ap (λ (m : ℕ). unpacked m (packed v)) (sym q) ∙ unpacked_packed v bytes-v)
+      (ap (λ (m : ℕ). unpacked m (packed u)) (sym p) ∙ unpacked_packed u bytes_u)
+      (ap (λ (m : ℕ). unpacked m (packed v)) (sym q) ∙ unpacked_packed v bytes_v)
 
   -- For a reader, document 01's form: the zeros at the low end of the exclusive or of their numbers, divided by eight. Proofs use its two parts.
   pub eight_bytes : count_trailing_zeros 64 (bit_xor (packed u) (packed v)) / 8 ≡ common_prefix u v

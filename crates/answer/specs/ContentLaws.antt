@@ -7,7 +7,7 @@ use Rattle.std.proofs.Math.ListN.{get_or-append}
 use Rattle.std.proofs.lemmas.List.Edits.{sets, sets-eq}
 use Rattle.std.proofs.Math.Seq.{length-sets}
 use Rattle.words.specs.Tabulate.{tabulate}
-use Rattle.words.specs.Laws.Tabulate.{length-tabulate, get_d_tabulate}
+use Rattle.words.specs.Laws.Tabulate.{length-tabulate, get_or-tabulate}
 use Rattle.answer.specs.AfterCall.{written}
 use Rattle.answer.specs.Limits.{Sized}
 use Rattle.answer.specs.Content.{Kept, From, Stored, Holds, Written, Pending, TextRoom}
@@ -83,7 +83,7 @@ module _ (f : ℕ → ℕ) (before : List ℕ) where
   pub holds_written : (n : ℕ) (after : List ℕ) → Holds f n before after → n ≤ length before → after ≡ written (tabulate f 0 n) before
   holds_written n after w h =
       written_places (tabulate f 0 n) n before after (length-tabulate f 0 n) h w.others
-      (λ t q. w.value t q ∙ sym (get_d_tabulate f 0 n t q ∙ ap f (zero-add t)))
+      (λ t q. w.value t q ∙ sym (get_or-tabulate f 0 n t q ∙ ap f (zero-add t)))
 
 -- Places written a second time.
 pub holds_again : {f g : ℕ → ℕ} {n : ℕ} {before now after : List ℕ} → Holds f n before now → Holds g n now after → Holds g n before after

@@ -85,22 +85,22 @@ module _ (order : ℕ) (x out : List ℕ) (text : Bytes x) {c : Check} {r : Answ
     (content : after ≡ content_after r (array_of decided_rising (rank_row keys x)) out) where
   pub ordered_content : keys ≡ key_table order [] → Adds Passed c (ordered_text_checked (length x) order (length out)) →
       after ≡ content_after r (array_of (decided_order order) x) out
-  ordered_content is-keys checked = content_where c r (length x) _ _ out after told same content
+  ordered_content is_keys checked = content_where c r (length x) _ _ out after told same content
     where
       same : c ≡ Passed → array_of decided_rising (rank_row keys x) ≡ array_of (decided_order order) x
       same e =
           let named = (ordered_text_passed (length x) order (length out) checked e).1 in
-          ap (λ (k : List ℕ). array_of decided_rising (rank_row k x)) is-keys ∙
+          ap (λ (k : List ℕ). array_of decided_rising (rank_row k x)) is_keys ∙
           keyed_array order [] x text no_bytes (omega (arith, named)) (λ u. absurd (table_unused order named u)) ∙ unranked_array order named [] x
 
   pub ranked_content : (table : List ℕ) → Bytes table → keys ≡ key_table order table →
       Adds Passed c (ranked_text_checked (length x) order (length table) (length out)) → after ≡ content_after r (array_in order table x) out
-  ranked_content table ranks is-keys checked = content_where c r (length x) _ _ out after told same content
+  ranked_content table ranks is_keys checked = content_where c r (length x) _ _ out after told same content
     where
       same : c ≡ Passed → array_of decided_rising (rank_row keys x) ≡ array_in order table x
       same e =
           let known = ranked_text_passed (length x) order (length table) (length out) checked e in
-          ap (λ (k : List ℕ). array_of decided_rising (rank_row k x)) is-keys ∙ keyed_array order table x text ranks known.2 known.3
+          ap (λ (k : List ℕ). array_of decided_rising (rank_row k x)) is_keys ∙ keyed_array order table x text ranks known.2 known.3
 
 module _ (ranks x work list : List ℕ) where
   row_ready : Sized (length x) × (run_list_length (length x) ≤ length list) × (work_length (length x) ≤ length work) → FindReady (rank_row ranks x) work list
@@ -133,8 +133,8 @@ plain_row x text keys e = ap (λ (k : List ℕ). rank_row k x) e ∙ rank_table_
 -- By those of order 2 it is that of the table, where the checks have passed.
 pub ranked_row : (x : List ℕ) → Bytes x → (keys table : List ℕ) (list work : ℕ) {c : Check} → keys ≡ rank_table 2 table →
     Adds Passed c (ranked_runs_checked (length x) (length table) list work) → c ≡ Passed → rank_row keys x ≡ rank_row table x
-ranked_row x text keys table list work is-keys checked e =
-    ap (λ (k : List ℕ). rank_row k x) is-keys ∙
+ranked_row x text keys table list work is_keys checked e =
+    ap (λ (k : List ℕ). rank_row k x) is_keys ∙
     rank_table_row 2 table x text (λ u. (ranked_runs_passed (length x) (length table) list work checked e).3)
 
 -- The runs of x, where the checks have passed, are those of y.

@@ -60,19 +60,19 @@ module _ {order : ℕ} {x before buf : List ℕ} {i j k₀ g₀ l s : ℕ} (w : 
     {k' : ℕ} {v : Comparison} where
   -- The factor ended without a difference, and is as long as the word.
   pub ended_same : l ≤ k → j - i ≡ l → k' ≡ k → v ≡ Same → Compared order x i j k' v
-  ended_same h e is-k is-v =
-      rw (is-k, is-v) (g, prefix_next w h g, (w.inside, (omega (arith, w.after, w.is_length), reached w h g)))
+  ended_same h e is_k is_v =
+      rw (is_k, is_v) (g, prefix_next w h g, (w.inside, (omega (arith, w.after, w.is_length), reached w h g)))
 
   -- The factor ended without a difference, and is shorter than the word.
   pub ended_above : l ≤ k → ¬ (j - i ≡ l) → k' ≡ k → v ≡ Above → Compared order x i j k' v
-  ended_above h e is-k is-v =
-      rw (is-k, is-v)
+  ended_above h e is_k is_v =
+      rw (is_k, is_v)
       (g, prefix_next w h g, λ q. (λ z. e (omega (arith, z.0, w.after, w.is_length)), λ q'. absurd (omega (arith, w.is_length))))
 
   -- A difference past the end of the word: the word is a proper prefix of the factor.
   pub past_below : k < l → j - i ≤ k → k' ≡ k → v ≡ Below → Compared order x i j k' v
-  past_below h q is-k is-v =
-      rw (is-k, is-v)
+  past_below h q is_k is_v =
+      rw (is_k, is_v)
       (g, shorter (j - i) (omega (arith, w.after)) (omega (arith, w.is_length)) (agree_less (letters 0 x) i j k (j - i) g.agree q))
 
 -- The letters compared are a of the word and b of the factor.
@@ -89,7 +89,7 @@ module _ {order : ℕ} {x before buf : List ℕ} {i j k₀ g₀ l s : ℕ} (w : 
   -- A difference inside both: the smaller one of the letters a and b decides.
   pub letter_told : {k' : ℕ} {u v : Comparison} → k < l → k < j - i → ¬ (a ≡ b) → u ≡ comparison_of ((decided_order order).compare a b) → k' ≡ k →
       v ≡ u → Compared order x i j k' v
-  letter_told h in_word d is-u is-k is-v = rw (is-k, is-v ∙ is-u) (told ((decided_order order).compare a b) ((decided_order order).right a b))
+  letter_told h in_word d is_u is_k is_v = rw (is_k, is_v ∙ is_u) (told ((decided_order order).compare a b) ((decided_order order).right a b))
     where
       differ : ¬ (letters 0 x (i + k) ≡ letters 0 x (j + k))
       differ z = d (p ∙ z ∙ sym q)
@@ -106,32 +106,32 @@ module _ {order : ℕ} {x before buf : List ℕ} {i j k₀ g₀ l s : ℕ} (w : 
   -- The word has ended without a difference, and is shorter than the factor.
   word_below : {k' : ℕ} {v : Comparison} → k < l → a ≡ b → k + 1 ≡ j - i → j - i < l → k' ≡ k + 1 → v ≡ Below →
       Compared order x i j k' v
-  word_below h e ended longer is-k is-v =
+  word_below h e ended longer is_k is_v =
       let more = agree_more h e in
-      rw (is-k, is-v) (more, word_less w more ended longer)
+      rw (is_k, is_v) (more, word_less w more ended longer)
 
   -- The same, and what is remembered of the factor tells how far they agree; m is the length of the factor's part behind that prefix.
   leap_below : {k' : ℕ} {v : Comparison} {m : ℕ} → k < l → a ≡ b → k + 1 ≡ j - i → j - i < l → j - i ≤ s →
       m ≡ get_or buf (j + (j - i)) 0 → j - i + m ≡ l → k' ≡ j - i + s → v ≡ Below → Compared order x i j k' v
-  leap_below h e ended longer enough part sum is-k is-v =
+  leap_below h e ended longer enough part sum is_k is_v =
       let more = agree_more h e in
       let r =
       shortcut (entry_next order x) (j - i) w.loop.joining.lyndon w.inside (omega (arith, w.after))
       (agree_less (letters 0 x) i j (k + 1) (j - i) more.agree (omega arith)) w.known enough
       (ap (λ (n : ℕ). j - i + n) (sym part) ∙ sum ∙ w.is_length) in
-      rw (is-k, is-v) (record { agree = r.0; within = omega (arith, w.ends, w.is_length, r.1) }, word_less w more ended longer)
+      rw (is_k, is_v) (record { agree = r.0; within = omega (arith, w.ends, w.is_length, r.1) }, word_less w more ended longer)
 
   -- Both: the word has ended without a difference, and r tells how far it agrees with the factor.
   pub settled_below : {k' r : ℕ} {v : Comparison} → k < l → a ≡ b → k + 1 ≡ j - i → r ≡ settled_at buf j (j - i) l s → j - i ≤ r → k' ≡ r → v ≡ Below →
       Compared order x i j k' v
-  settled_below {k'} {r} {v} h e ended is-r told is-k is-v = go (dec_lt (j - i) l) (dec_lt s (j - i)) (ℕ_discrete (j - i + get_or buf (j + (j - i)) 0) l)
+  settled_below {k'} {r} {v} h e ended is_r told is_k is_v = go (dec_lt (j - i) l) (dec_lt s (j - i)) (ℕ_discrete (j - i + get_or buf (j + (j - i)) 0) l)
     where
       open_end : r ≡ 0 → Compared order x i j k' v
       open_end z = absurd (omega (arith, w.after, told))
 
       go : Dec (j - i < l) → Dec (s < j - i) → Dec (j - i + get_or buf (j + (j - i)) 0 ≡ l) → Compared order x i j k' v
-      go (no n) d f = open_end (is-r ∙ settled_none buf j (j - i) l s (omega (arith, n)))
-      go (yes m) (yes n) f = word_below h e ended m (is-k ∙ is-r ∙ settled_word buf j (j - i) l s m n ∙ sym ended) is-v
+      go (no n) d f = open_end (is_r ∙ settled_none buf j (j - i) l s (omega (arith, n)))
+      go (yes m) (yes n) f = word_below h e ended m (is_k ∙ is_r ∙ settled_word buf j (j - i) l s m n ∙ sym ended) is_v
       go (yes m) (no n) (yes o) =
-          leap_below h e ended m (omega (arith, n)) refl o (is-k ∙ is-r ∙ settled_leap buf j (j - i) l s m (omega (arith, n)) o) is-v
-      go (yes m) (no n) (no o) = open_end (is-r ∙ settled_open buf j (j - i) l s m (omega (arith, n)) o)
+          leap_below h e ended m (omega (arith, n)) refl o (is_k ∙ is_r ∙ settled_leap buf j (j - i) l s m (omega (arith, n)) o) is_v
+      go (yes m) (no n) (no o) = open_end (is_r ∙ settled_open buf j (j - i) l s m (omega (arith, n)) o)

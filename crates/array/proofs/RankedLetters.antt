@@ -42,9 +42,9 @@ module _ (ranks text : List ℕ) {order : ℕ} {before buf : List ℕ} {i j k₀
     pub ranked_told : {k' : ℕ} {u v : Comparison} → r ≡ true → k < j - i →
         u ≡ comparison_of ((decided_order order).compare (rank_by ranks (get_or text (i + k) 0)) (rank_by ranks (get_or text (j + k) 0))) → k' ≡ k → v ≡ u →
         Compared order (rank_row ranks text) i j k' v
-    ranked_told differ in_word is-u is-k is-v =
-        let ranks-apart = ranks_differ ranks (get_or text (i + k) 0) (get_or text (j + k) 0) e differ in
-        letter_told w g of_word of_factor h in_word ranks-apart is-u is-k is-v
+    ranked_told differ in_word is_u is_k is_v =
+        let ranks_apart = ranks_differ ranks (get_or text (i + k) 0) (get_or text (j + k) 0) e differ in
+        letter_told w g of_word of_factor h in_word ranks_apart is_u is_k is_v
 
     -- The word has ended without a difference, and what is remembered tells how far it agrees with the factor.
     pub ranked_settled : {k' q : ℕ} {v : Comparison} → r ≡ false → k + 1 ≡ j - i → q ≡ settled_at buf j (j - i) l s → j - i ≤ q → k' ≡ q → v ≡ Below →

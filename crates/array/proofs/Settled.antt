@@ -1,4 +1,4 @@
--- How far a word is known to agree with the factor after it: the cases of `settledAt`.
+-- How far a word is known to agree with the factor after it: the cases of `settled_at`.
 -- Assumes nothing.
 use mathlib.Core.Path.{◌≡◌}
 use mathlib.Core.List.{List}

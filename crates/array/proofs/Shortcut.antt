@@ -26,10 +26,10 @@ module _ {ℓ κ} {A : Type ℓ} {O : Letters {ℓ, κ} A} {x : ℕ → A} {n : 
           let v : ℕ = i + (t - j) in
           let b : BelowWithin O x i v j = w.below v (omega arith) (omega arith) in
           let o : ℕ = b.offset in
-          let in-d : (t - j) + o < d = omega (arith, b.inside) in
+          let in_d : (t - j) + o < d = omega (arith, b.inside) in
           let c : x (j + o) ≡ x (i + o) = sym (g o (omega arith)) in
           let f : x (t + o) ≡ x (v + o) =
           let f₁ : t + o ≡ j + ((t - j) + o) = omega arith in
           let f₂ : v + o ≡ i + ((t - j) + o) = omega arith in
-          ap x f₁ ∙ sym (g ((t - j) + o) in-d) ∙ sym (ap x f₂) in
+          ap x f₁ ∙ sym (g ((t - j) + o) in_d) ∙ sym (ap x f₂) in
           b.smaller.0 (sym c ∙ a o (omega arith) ∙ f)

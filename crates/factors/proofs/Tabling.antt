@@ -126,10 +126,10 @@ module _ (O : Letters {0, 0} ℕ) where
           let longer : Repetition O (letters 0 x) start period (suc end) =
           repetition_longer O (letters 0 x) start period end w.repetition (end - period) back (sym m.lower) in
           let i : ℕ = end - period in
-          let before-it : LongestTo O x i (get_or out i 0) = w.table.entry i (omega (arith, w.repetition.whole, w.repetition.lyndon.non_empty)) in
-          let c : LongestEnding O (letters 0 x) (before-it.start + period) (suc i + period) =
-          repetition_longest O (letters 0 x) (length x) start lowest period (suc end) longer l before-it.start (suc i)
-          (omega (arith, w.repetition.whole)) (omega (arith, back)) (longest_ending O 0 x i (get_or out i 0) (omega arith) before-it) in
+          let before_it : LongestTo O x i (get_or out i 0) = w.table.entry i (omega (arith, w.repetition.whole, w.repetition.lyndon.non_empty)) in
+          let c : LongestEnding O (letters 0 x) (before_it.start + period) (suc i + period) =
+          repetition_longest O (letters 0 x) (length x) start lowest period (suc end) longer l before_it.start (suc i)
+          (omega (arith, w.repetition.whole)) (omega (arith, back)) (longest_ending O 0 x i (get_or out i 0) (omega arith) before_it) in
           let f : suc i + period ≡ suc end = omega (arith, back) in
           record {
             repetition = subst (λ (k : ℕ). Repetition O (letters 0 x) start period k) o longer;
@@ -137,8 +137,8 @@ module _ (O : Letters {0, 0} ℕ) where
             room = room_set x out end (get_or out i 0) w.room;
             table =
                 tabled_more x before out end (get_or out i 0) w.table l (filling_places l)
-                (ending_longest O 0 x end (get_or out i 0) (before-it.start + period) l (omega (arith, before-it.ends, back))
-                (subst (λ (k : ℕ). LongestEnding O (letters 0 x) (before-it.start + period) k) f c));
+                (ending_longest O 0 x end (get_or out i 0) (before_it.start + period) l (omega (arith, before_it.ends, back))
+                (subst (λ (k : ℕ). LongestEnding O (letters 0 x) (before_it.start + period) k) f c));
           }
 
       -- A greater letter makes all that was read a Lyndon word.

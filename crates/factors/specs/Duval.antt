@@ -36,7 +36,7 @@ copies_from (suc most) start p end = elim (ltb end (start + p)) [ true ↦ [] | 
 abbrev pub copies : ℕ → Scanned → List ℕ
 copies start s = copies_from s.end start s.period s.end
 
--- The first letter behind them (document 000, line 5: j − (i − h), the same by `DuvalIndexed` `restart-place`).
+-- The first letter behind them (document 000, line 5: j − (i − h), the same by `DuvalIndexed` `restart_place`).
 abbrev pub restart : ℕ → Scanned → ℕ
 restart start s = start + length (copies start s) * s.period
 

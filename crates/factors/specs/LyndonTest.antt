@@ -10,7 +10,7 @@ use Rattle.answer.specs.Limits.{max_length}
 abbrev pub lyndon_within : List ℕ → Bool
 lyndon_within x = cond (ltb max_length (length x)) false (lyndonb decided_rising x)
 
--- Up to that length it is the test of the definition (`lyndonb-holds` of `words`).
+-- Up to that length it is the test of the definition (`lyndonb_holds` of `words`).
 pub within_limit : (x : List ℕ) → length x ≤ max_length → lyndon_within x ≡ lyndonb decided_rising x
 within_limit x l = simp (le-ltb max_length (length x) l)
 

@@ -1,5 +1,5 @@
 -- What the FASTA reader answers, which letters it writes and where the name ends (document 01, "The FASTA reader and the repeat lister"; rows 4
--- and 9 to 15 of its table; document 02, E2 and E4). Computed; the rows as conditions on the input stand in Rows, that the two agree in RowTheorems.
+-- and 9 to 15 of its table; document 02, E2 and E4). Computed; the rows as conditions on the input stand in Rows, that the two agree in proofs/RowTheorems.
 -- Assumes nothing.
 use Rattle.std.specs.Prelude.{List, ℕ, eqb, length, drop}
 use Rattle.answer.specs.declared.Answer.{Answer}

@@ -7,7 +7,7 @@ use Rattle.std.proofs.Math.Logic.Iff
 use Rattle.words.specs.Letters.{Letters, rising}
 use Rattle.words.specs.LyndonArray.{IsLyndonArray}
 use Rattle.words.specs.RightForest.{IsRightForest}
-use Rattle.words.specs.ValidArray.{Fault, zero-entry, long-entry, crossing, text_for}
+use Rattle.words.specs.ValidArray.{Fault, zero_entry, long_entry, crossing, text_for}
 use Rattle.words.specs.Permutation.{EachOnce}
 use Rattle.words.specs.ArrayForest.{forest_first, forest_past}
 use Rattle.words.specs.Compute.ValidArray.{Verdict, fits, fault, check_array}
@@ -42,8 +42,8 @@ refuses_faulty a = (
     go (fault f i) e r = record { kind = f; position = i; found = e }
 
     numbered : (f : Fault) (i : ℕ) → RefusesArray (verdict_answer (length a) (fault f i))
-    numbered zero-entry i = record { from = omega arith; to = omega arith }
-    numbered long-entry i = record { from = omega arith; to = omega arith }
+    numbered zero_entry i = record { from = omega arith; to = omega arith }
+    numbered long_entry i = record { from = omega arith; to = omega arith }
     numbered crossing i = record { from = omega arith; to = omega arith }
 
 accepts_passed : (a : List ℕ) → (array_checked a ≡ accepted_with (length a)) ↔ (check_array a ≡ fits)
@@ -54,8 +54,8 @@ accepts_passed a = (λ e. go (check_array a) refl e, ap (verdict_answer (length 
     go (fault f i) e h = absurd (refused f (ap number (ap (verdict_answer (length a)) (sym e) ∙ h)))
       where
         refused : (f : Fault) → number (verdict_answer (length a) (fault f i)) ≡ number (accepted_with (length a)) → ⊥
-        refused zero-entry q = omega (arith, q)
-        refused long-entry q = omega (arith, q)
+        refused zero_entry q = omega (arith, q)
+        refused long_entry q = omega (arith, q)
         refused crossing q = omega (arith, q)
 
 -- What `reconstruct` leaves in its buffer, by its contract.

@@ -82,13 +82,13 @@ module _ {O : Letters {0, 0} ℕ} (D : Decided O) (x first past table : List ℕ
         }
 
     module _ (first₂ past₂ : List ℕ)
-        (roots-first : (start : ℕ → ℕ) (k : ℕ) → Linked start first₁ k last → OwnRoots start first₁ first₂ k)
-        (roots-past : (start : ℕ → ℕ) (k : ℕ) → Linked start first₁ k last → OwnRoots start past₁ past₂ k) where
+        (roots_first : (start : ℕ → ℕ) (k : ℕ) → Linked start first₁ k last → OwnRoots start first₁ first₂ k)
+        (roots_past : (start : ℕ → ℕ) (k : ℕ) → Linked start first₁ k last → OwnRoots start past₁ past₂ k) where
       in_first : OwnRoots (start_in table) first₁ first₂ e
-      in_first = roots-first (start_in table) e crossed_linked
+      in_first = roots_first (start_in table) e crossed_linked
 
       in_past : OwnRoots (start_in table) past₁ past₂ e
-      in_past = roots-past (start_in table) e crossed_linked
+      in_past = roots_past (start_in table) e crossed_linked
 
       taken : (l : List ℕ) (j : ℕ) → j < length x → get_or (take (length x) l) j 0 ≡ get_or l j 0
       taken l j q = get_or-take (length x) l j 0 q
@@ -169,7 +169,7 @@ module _ (order : ℕ) (ranks x first past table : List ℕ) (g : Growable order
     pub ranked_written : (first₂ past₂ : List ℕ) →
         ((start : ℕ → ℕ) (k : ℕ) → Linked start first₁ k last → OwnRoots start first₁ first₂ k) →
         ((start : ℕ → ℕ) (k : ℕ) → Linked start first₁ k last → OwnRoots start past₁ past₂ k) → Grown order ranks x first first₂ past past₂
-    ranked_written first₂ past₂ roots-first roots-past =
+    ranked_written first₂ past₂ roots_first roots_past =
         let both =
-        forest_written decided row first past table room_first room_past w first₁ past₁ last crossed some first₂ past₂ roots-first roots-past in
+        forest_written decided row first past table room_first room_past w first₁ past₁ last crossed some first₂ past₂ roots_first roots_past in
         record { in_first = both.0; in_past = both.1 }

@@ -18,7 +18,7 @@ default_left_first x = left_first_of decided_rising (default_row x) (default_fac
 abbrev pub default_left_past : List ℕ → List ℕ
 default_left_past x = left_past_of decided_rising (default_row x) (default_factors x)
 
--- The call that writes the left forest of x, in buffers of `in-first` and `in-past` places: refused where either is short; the count is the
+-- The call that writes the left forest of x, in buffers of `in_first` and `in_past` places: refused where either is short; the count is the
 -- number of letters.
 abbrev pub left_forest_answer : List ℕ → ℕ → ℕ → Answer
 left_forest_answer x in_first in_past = forest_checked (length x) in_first in_past (accepted_with (length x))

@@ -4,7 +4,7 @@
 use Rattle.std.specs.Prelude.{◌≡◌, Bool, true, false, cond, ℕ, ◌-◌, ◌<◌, ◌≤◌, eqb, length}
 use Rattle.std.proofs.Common.{sym, ap, ◌∙◌, zero-add, arith, le-leb}
 use Rattle.std.proofs.lemmas.Bool.{lt-leb}
-use Rattle.words.specs.Laws.Tabulate.{length-tabulate, get_d_tabulate}
+use Rattle.words.specs.Laws.Tabulate.{length-tabulate, get_or-tabulate}
 use Rattle.answer.specs.Limits.{table_length}
 use Rattle.letters.specs.Ranks.{rank_by, own_numbers}
 use Rattle.letters.specs.RankLaws.{own_numbers_length}
@@ -16,7 +16,7 @@ folded_length = length-tabulate folded_rank 0 table_length
 
 folded_entry : (a : ℕ) → a < table_length → rank_by folded_numbers a ≡ folded_rank a
 unfolding folded_numbers
-folded_entry a l = get_d_tabulate folded_rank 0 table_length a l ∙ ap folded_rank (zero-add a)
+folded_entry a l = get_or-tabulate folded_rank 0 table_length a l ∙ ap folded_rank (zero-add a)
 
 -- Table 1: the bytes before a to z have their own numbers, A to Z among them.
 pub folded_before : (a : ℕ) → a < 97 → rank_by folded_numbers a ≡ a

@@ -11,7 +11,7 @@ use Rattle.std.proofs.lemmas.List.{length-map}
 use Rattle.words.specs.Letters.{rising, falling}
 use Rattle.words.specs.Laws.SpanLyndon.{letters}
 use Rattle.words.specs.Laws.OrderedAlike.{Carries, OrderedAlike}
-use Rattle.words.specs.Laws.Tabulate.{length-tabulate, get_d_tabulate}
+use Rattle.words.specs.Laws.Tabulate.{length-tabulate, get_or-tabulate}
 use Rattle.answer.specs.declared.Answer.{Answer}
 use Rattle.answer.specs.Limits.{table_length}
 use Rattle.checks.specs.Checks.{uses_table, ranked_checked}
@@ -68,7 +68,7 @@ own_numbers_length = length-tabulate (λ a. a) 0 table_length
 
 pub own_numbers_entry : (a : ℕ) → a < table_length → get_or own_numbers a 0 ≡ a
 unfolding own_numbers
-own_numbers_entry a l = get_d_tabulate (λ b. b) 0 table_length a l ∙ zero-add a
+own_numbers_entry a l = get_or-tabulate (λ b. b) 0 table_length a l ∙ zero-add a
 
 -- The checks in order 2, by a table of 256 entries, are those in order 0 of the row of ranks, where the table t is not measured.
 pub row_checked : (table t x : List ℕ) → length table ≡ table_length → (after : ℕ → Answer) →
@@ -92,7 +92,7 @@ module _ (order : ℕ) (table : List ℕ) where
 
   pub rank_table_entry : (a : ℕ) → a < table_length → get_or (rank_table order table) a 0 ≡ rank_in order table a
   unfolding rank_table
-  rank_table_entry a l = get_d_tabulate (rank_in order table) 0 table_length a l ∙ ap (rank_in order table) (zero-add a)
+  rank_table_entry a l = get_or-tabulate (rank_in order table) 0 table_length a l ∙ ap (rank_in order table) (zero-add a)
 
   -- The ranks of an order are bytes.
   pub rank_table_bytes : Bytes table → Bytes (rank_table order table)
@@ -120,7 +120,7 @@ module _ (order : ℕ) (table : List ℕ) where
 module _ (table : List ℕ) where
   pub turned_entry : (a : ℕ) → a < table_length → get_or (turned_table table) a 0 ≡ 255 - get_or table a 0
   unfolding turned_table
-  turned_entry a l = get_d_tabulate (λ b. 255 - get_or table b 0) 0 table_length a l ∙ ap (λ (b : ℕ). 255 - get_or table b 0) (zero-add a)
+  turned_entry a l = get_or-tabulate (λ b. 255 - get_or table b 0) 0 table_length a l ∙ ap (λ (b : ℕ). 255 - get_or table b 0) (zero-add a)
 
   -- By a table turned round the letters compare as they do by the table in falling order.
   module _ (x : List ℕ) (text : Bytes x) (ranks : Bytes table) where

@@ -83,9 +83,9 @@ module _ (order : ℕ) (named : order ≤ ranked_order) (table : List ℕ) (fits
       ((factors_written order table x b ≡ factors_written order table y d) ×
       (first_written (array_written order table x b) x b ≡ first_written (array_written order table y d) y d) ×
       (past_written (array_written order table x b) x b ≡ past_written (array_written order table y d) y d))
-  equal_arrays_in_one_order x y sized-x sized-y b d =
-      equal_arrays_exactly O O (row_in order table x) (row_in order table y) _ _ _ _ _ _ _ _ (is_array x sized-x b) (is_array y sized-y d)
-      (is_list x sized-x b) (is_list y sized-y d) (is_forest x sized-x b) (is_forest y sized-y d)
+  equal_arrays_in_one_order x y sized_x sized_y b d =
+      equal_arrays_exactly O O (row_in order table x) (row_in order table y) _ _ _ _ _ _ _ _ (is_array x sized_x b) (is_array y sized_y d)
+      (is_list x sized_x b) (is_list y sized_y d) (is_forest x sized_x b) (is_forest y sized_y d)
 
 -- What `lyndon_array` of bytes writes into its buffer, in order 0 or 1.
 abbrev pub plain_array_written : ℕ → (x : List ℕ) → Buffers x → List ℕ
@@ -97,9 +97,9 @@ pub equal_arrays_by_number : (order : ℕ) → order ≤ 1 → (table x y : List
     ((factors_written order table x b ≡ factors_written order table y d) ×
     (first_written (plain_array_written order x b) x b ≡ first_written (plain_array_written order y d) y d) ×
     (past_written (plain_array_written order x b) x b ≡ past_written (plain_array_written order y d) y d))
-equal_arrays_by_number order named table x y sized-x sized-y b d =
+equal_arrays_by_number order named table x y sized_x sized_y b d =
     rw (← (array_unranked order named table x b.array).1, ← (array_unranked order named table y d.array).1)
-    (equal_arrays_in_one_order order (omega arith) table (λ e. absurd (table_unused order named e)) x y sized-x sized-y b d)
+    (equal_arrays_in_one_order order (omega arith) table (λ e. absurd (table_unused order named e)) x y sized_x sized_y b d)
 
 -- The factor list without an order goes with the array in order 2 by the table of the default order.
 pub equal_arrays_by_default : (x y : List ℕ) → Sized (length x) → Sized (length y) → (b : Buffers x) (d : Buffers y) →
@@ -107,6 +107,6 @@ pub equal_arrays_by_default : (x y : List ℕ) → Sized (length x) → Sized (l
     ((starts_written x b ≡ starts_written y d) ×
     (first_written (array_written 2 default_table x b) x b ≡ first_written (array_written 2 default_table y d) y d) ×
     (past_written (array_written 2 default_table x b) x b ≡ past_written (array_written 2 default_table y d) y d))
-equal_arrays_by_default x y sized-x sized-y b d =
+equal_arrays_by_default x y sized_x sized_y b d =
     rw ((factorization_default x b.factors).1, (factorization_default y d.factors).1)
-    (equal_arrays_in_one_order 2 (omega arith) default_table (λ e. default_length) x y sized-x sized-y b d)
+    (equal_arrays_in_one_order 2 (omega arith) default_table (λ e. default_length) x y sized_x sized_y b d)

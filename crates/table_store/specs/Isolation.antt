@@ -23,9 +23,9 @@ pub isolation : (group : ℕ) → group_exists group ≡ true → (p q : List Ca
     (results_of group new_store p ≡ results_of group new_store q) × SamePart group (store_at_end new_store p) (store_at_end new_store q)
 isolation group exists p q same =
     let in_p = alone group exists p in
-    let in-q = alone group exists q in (
-      in_p.0 ∙ ap (results_of group new_store) same ∙ sym in-q.0,
-      same_then in_p.1 (same_back (subst (λ (own : List Call). SamePart group (store_at_end new_store q) (store_at_end new_store own)) (sym same) in-q.1)),
+    let in_q = alone group exists q in (
+      in_p.0 ∙ ap (results_of group new_store) same ∙ sym in_q.0,
+      same_then in_p.1 (same_back (subst (λ (own : List Call). SamePart group (store_at_end new_store q) (store_at_end new_store own)) (sym same) in_q.1)),
     )
 
 -- After a series begun on a new store, a group's own table is that of the last write of it that was accepted; before the first one it is not

@@ -48,7 +48,7 @@ step_whole store whole (use_table group builtin number task) = whole
 -- A write by a group on two stores that agree in its part leaves two such.
 write_same : (group : ℕ) → group_exists group ≡ true → (a b : TableStore) → Whole a → Whole b → SamePart group a b → (number : ℕ) (table : List ℕ) →
     SamePart group (store_after a group number table) (store_after b group number table)
-write_same group exists a b whole-a whole-b same number table = go (write_case group number table)
+write_same group exists a b whole_a whole_b same number table = go (write_case group number table)
   where
     new_a : TableStore
     new_a = store_after a group number table
@@ -61,14 +61,14 @@ write_same group exists a b whole-a whole-b same number table = go (write_case g
 
     at : table_exists group false number ≡ true → length table ≡ table_length → (k : ℕ) → k < own_tables → Dec (number ≡ k) → Agree k
     at there fits k l (yes z) =
-        let in-a = after_table a whole-a group number table there fits in
-        let in_b = after_table b whole-b group number table there fits in
-        subst Agree z (in-a.0 ∙ sym in_b.0, in-a.1 ∙ sym in_b.1)
+        let in_a = after_table a whole_a group number table there fits in
+        let in_b = after_table b whole_b group number table there fits in
+        subst Agree z (in_a.0 ∙ sym in_b.0, in_a.1 ∙ sym in_b.1)
     at there fits k l (no z) =
         let other = group_table group k exists l in
-        let in-a = after_others a whole-a group number table group k other (λ p. z p.1) in
-        let in_b = after_others b whole-b group number table group k other (λ p. z p.1) in
-        (in-a.0 ∙ same.tables k l ∙ sym in_b.0, in-a.1 ∙ same.flags k l ∙ sym in_b.1)
+        let in_a = after_others a whole_a group number table group k other (λ p. z p.1) in
+        let in_b = after_others b whole_b group number table group k other (λ p. z p.1) in
+        (in_a.0 ∙ same.tables k l ∙ sym in_b.0, in_a.1 ∙ same.flags k l ∙ sym in_b.1)
 
     go : WriteCase group number table → SamePart group new_a new_b
     go (replaced there fits) =
@@ -78,8 +78,8 @@ write_same group exists a b whole-a whole-b same number table = go (write_case g
 -- So does every call of the group.
 step_same : (call : Call) → group_exists (group_of call) ≡ true → (a b : TableStore) → Whole a → Whole b → SamePart (group_of call) a b →
     SamePart (group_of call) (store_of a call) (store_of b call)
-step_same (write_table group number table) exists a b whole-a whole-b same = write_same group exists a b whole-a whole-b same number table
-step_same (use_table group builtin number task) exists a b whole-a whole-b same = same
+step_same (write_table group number table) exists a b whole_a whole_b same = write_same group exists a b whole_a whole_b same number table
+step_same (use_table group builtin number task) exists a b whole_a whole_b same = same
 
 module _ (group : ℕ) (exists : group_exists group ≡ true) where
   -- A call of another group leaves the group's part as it was.
@@ -103,9 +103,9 @@ module _ (group : ℕ) (exists : group_exists group ≡ true) where
 
   -- From a series on one store a group gets what it gets when it alone calls, on a store that agrees in its part; and so do the two at the end.
   pub as_alone : (series : List Call) (a b : TableStore) → Whole a → Whole b → SamePart group a b → AsAlone a b series (calls_of group series)
-  as_alone [] a b whole-a whole-b same = (refl, same)
-  as_alone (call ∷ series) a b whole-a whole-b same =
-      go (eqb (group_of call) group) refl (λ s. as_alone series (store_of a call) s (step_whole a whole-a call))
+  as_alone [] a b whole_a whole_b same = (refl, same)
+  as_alone (call ∷ series) a b whole_a whole_b same =
+      go (eqb (group_of call) group) refl (λ s. as_alone series (store_of a call) s (step_whole a whole_a call))
     where
       go : (t : Bool) → eqb (group_of call) group ≡ t →
           ((s : TableStore) → Whole s → SamePart group (store_of a call) s → AsAlone (store_of a call) s series (calls_of group series)) →
@@ -114,14 +114,14 @@ module _ (group : ℕ) (exists : group_exists group ≡ true) where
           let own : group_of call ≡ group = eqb-true (group_of call) group e in
           let before : SamePart (group_of call) a b = subst (λ (g : ℕ). SamePart g a b) (sym own) same in
           let there : group_exists (group_of call) ≡ true = subst (λ (g : ℕ). group_exists g ≡ true) (sym own) exists in
-          let after = rest (store_of b call) (step_whole b whole-b call)
-          (subst (λ (g : ℕ). SamePart g (store_of a call) (store_of b call)) own (step_same call there a b whole-a whole-b before)) in (
+          let after = rest (store_of b call) (step_whole b whole_b call)
+          (subst (λ (g : ℕ). SamePart g (store_of a call) (store_of b call)) own (step_same call there a b whole_a whole_b before)) in (
             results_from a call series true e ∙ ap₂ (λ (r : Result) (l : List Result). r ∷ l) (result_same a b call before) after.0 ∙
                 sym (results_from b call (calls_of group series) true e),
             after.1,
           )
       go false e rest =
-          let after = rest b whole-b (same_then (step_other a whole-a call (eqb-false (group_of call) group e)) same) in
+          let after = rest b whole_b (same_then (step_other a whole_a call (eqb-false (group_of call) group e)) same) in
           (results_from a call series false e ∙ after.0, after.1)
 
 module _ (group number : ℕ) (exists : table_exists group false number ≡ true) where

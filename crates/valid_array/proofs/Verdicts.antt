@@ -6,7 +6,7 @@ use Prim.Native.Nat.{ℕ, ◌+◌, ◌<◌, ◌≤◌}
 use native.Mathlib.Omega.{arith}
 use native.Mathlib.Decide.{dec_lt}
 use lib.ListN.{length, get_or}
-use Rattle.words.specs.ValidArray.{zero-entry, long-entry, crossing, EarlierInRange}
+use Rattle.words.specs.ValidArray.{zero_entry, long_entry, crossing, EarlierInRange}
 use Rattle.words.specs.Compute.ValidArray.{Verdict, fits, fault, HasVerdict}
 use Rattle.words.specs.Laws.ValidArray.{check_array_computes}
 use Rattle.answer.specs.declared.Reason.TheVariants.{ZeroEntry, LongEntry, CrossingSpans}
@@ -23,10 +23,10 @@ module _ (a : List ℕ) where
   first_bad_entry r b h = record { inside = h; before = b.good }
 
   pub zero_verdict : (r : ℕ) → FirstBad a r → r < length a → get_or a r 0 ≡ 0 → array_checked a ≡ refused_for ZeroEntry r
-  zero_verdict r b h e = answers (fault zero-entry r) (first_bad_entry r b h, e)
+  zero_verdict r b h e = answers (fault zero_entry r) (first_bad_entry r b h, e)
 
   pub long_verdict : (r : ℕ) → FirstBad a r → r < length a → ¬ (get_or a r 0 ≡ 0) → array_checked a ≡ refused_for LongEntry r
-  long_verdict r b h n = answers (fault long-entry r) (first_bad_entry r b h, omega (arith, n), past (dec_lt (length a) (r + get_or a r 0)))
+  long_verdict r b h n = answers (fault long_entry r) (first_bad_entry r b h, omega (arith, n), past (dec_lt (length a) (r + get_or a r 0)))
     where
       past : Dec (length a < r + get_or a r 0) → length a < r + get_or a r 0
       past (yes l) = l

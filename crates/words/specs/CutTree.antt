@@ -29,10 +29,10 @@ pub record Tree {ρ} (Rule : ℕ → ℕ → ℕ → Type ρ) (first past : List
 
 -- FIRST and PAST are the forest of x under a rule of cutting (document 01, "The calls"): one tree for each factor. Factor k starts at
 -- entry k of the starts and ends at entry k + 1 of them, where the next one starts; for the last factor there is no such entry, and
--- `get_or factor_starts_lem (suc k) (length x)` is then the end of the text.
+-- `get_or starts (suc k) (length x)` is then the end of the text.
 pub record IsForest {ℓ κ ρ} {A : Type ℓ} (O : Letters {ℓ, κ} A) (Rule : ℕ → ℕ → ℕ → Type ρ) (x : List A) (first past : List ℕ) : Type (ℓ ⊔ κ ⊔ ρ) where
   pub first_size : length first ≡ length x
   pub past_size : length past ≡ length x
-  pub factor_starts_lem : List ℕ
-  pub factorization : IsFactorization O x factor_starts_lem
-  pub factor : (k : ℕ) → k < length factor_starts_lem → Tree Rule first past (get_or factor_starts_lem k 0) (get_or factor_starts_lem (suc k) (length x))
+  pub starts : List ℕ
+  pub factorization : IsFactorization O x starts
+  pub factor : (k : ℕ) → k < length starts → Tree Rule first past (get_or starts k 0) (get_or starts (suc k) (length x))

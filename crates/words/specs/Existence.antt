@@ -27,7 +27,7 @@ LettersDecided {A = A} x = (a b : A) → Memᴰ a x → Memᴰ b x → Dec (a �
 
 -- A value that has the property is the only one.
 pub only_one {μ ν} : {B : Type μ} {P : B → Type ν} → NeitherTwoNorNone P → (b : B) × P b → (b : B) × ExactlyOne P b
-only_one never-two p = (p.0, record { holds = p.1; only = λ b h. never-two.not_two b p.0 h p.1 })
+only_one never_two p = (p.0, record { holds = p.1; only = λ b h. never_two.not_two b p.0 h p.1 })
 
 module _ {ℓ κ} {A : Type ℓ} (O : Letters {ℓ, κ} A) (x : List A) (compared : LettersCompared O x) where
   text_test : LyndonTest O x

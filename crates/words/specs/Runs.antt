@@ -43,7 +43,7 @@ abbrev pub IsRun {ℓ} : {A : Type ℓ} → List A → Entry → Type ℓ
 IsRun x r = Run x r.start (suc r.last) r.period
 
 -- rs lists the runs of x (document 01, "The calls"): it holds an entry exactly when it is a run, by start and then by last position,
--- none twice; `List.Memᴰ r rs` says that r stands in the list rs.
+-- none twice; `Memᴰ r rs` says that r stands in the list rs.
 pub record IsRunList {ℓ} {A : Type ℓ} (x : List A) (rs : List Entry) : Type ℓ where
   pub sound : (r : Entry) → Memᴰ r rs → IsRun x r
   pub complete : (r : Entry) → IsRun x r → Memᴰ r rs

@@ -23,7 +23,7 @@ pub record Valid (a : List ℕ) : Type 0 where
 
 -- Document 01's reasons to refuse an array, refusals 6, 7 and 8.
 pub data Fault : Type 0 where
-  zero-entry long-entry crossing : Fault
+  zero_entry long_entry crossing : Fault
 
 -- Entry i is there, and all entries before it are in range.
 pub record EarlierInRange (a : List ℕ) (i : ℕ) : Type 0 where
@@ -32,8 +32,8 @@ pub record EarlierInRange (a : List ℕ) (i : ℕ) : Type 0 where
 
 -- The first fault of a stands at i (document 01, "Where each check stands", rows 6, 7 and 8).
 abbrev pub FirstFault : List ℕ → Fault → ℕ → Type 0
-FirstFault a zero-entry i = EarlierInRange a i × (get_or a i 0 ≡ 0)
-FirstFault a long-entry i = EarlierInRange a i × (1 ≤ get_or a i 0) × (length a < i + get_or a i 0)
+FirstFault a zero_entry i = EarlierInRange a i × (get_or a i 0 ≡ 0)
+FirstFault a long_entry i = EarlierInRange a i × (1 ≤ get_or a i 0) × (length a < i + get_or a i 0)
 FirstFault a crossing j =
     ((i : ℕ) → i < length a → InRange a i) × (j < length a) × Crosses a j × ((k : ℕ) → k < j → ¬ Crosses a k)
 

@@ -29,7 +29,7 @@ or_else below c = below
 or_else same c = c
 or_else above c = above
 
--- u and v in infinite order: |u| + |v| letters of each are enough (`Laws/Endless` `agree-forever`); where they are the same, the longer word is
+-- u and v in infinite order: |u| + |v| letters of each are enough (`Laws/Endless` `agree_forever`); where they are the same, the longer word is
 -- the smaller.
 abbrev pub compare_infinite {ℓ κ} : {A : Type ℓ} {O : Letters {ℓ, κ} A} → Decided O → A → List A → List A → Comparison
 compare_infinite D z u v = or_else (compare_copies D z u v (length u + length v) 0) (compare_numbers (length v) (length u))

@@ -3,7 +3,7 @@
 use Rattle.std.specs.Prelude.{◌≡◌, refl, Bool, true, false, ◌&&◌, ◌||◌, List, [], ◌∷◌, ℕ, zero, suc, ◌+◌, ◌<◌, ◌≤◌, length, get_or, ltb, eqb}
 use Rattle.std.proofs.Common.{arith, ltb-true, ltb-false, eqb-true}
 use Rattle.std.proofs.lemmas.Bool.{eqb-false}
-use Rattle.words.specs.ValidArray.{InRange, Crosses, Valid, Fault, zero-entry, long-entry, crossing, EarlierInRange, FirstFault, text_for}
+use Rattle.words.specs.ValidArray.{InRange, Crosses, Valid, Fault, zero_entry, long_entry, crossing, EarlierInRange, FirstFault, text_for}
 use Rattle.words.specs.Laws.Numbers.{below_suc}
 
 -- What the check says of an array: that it is valid, or its first fault and the position of that.
@@ -42,8 +42,8 @@ abbrev pub check_entries : List ℕ → ℕ → ℕ → Verdict
 check_entries a i zero = check_spans a 0 (length a)
 check_entries a i (suc d) =
     let after = check_entries a (suc i) d in
-    let not-zero = fault_if (ltb (length a) (i + get_or a i 0)) long-entry i after in
-    fault_if (eqb (get_or a i 0) 0) zero-entry i not-zero
+    let not_zero = fault_if (ltb (length a) (i + get_or a i 0)) long_entry i after in
+    fault_if (eqb (get_or a i 0) 0) zero_entry i not_zero
 
 -- The verdict on an array: entries from the left, then spans from the left.
 abbrev pub check_array : List ℕ → Verdict
@@ -52,9 +52,9 @@ check_array a = check_entries a 0 (length a)
 -- Arrays of document 01 that are not in the table of K1 to K12 ("Worked by hand", "Traps on the way").
 checked : (check_array (1 ∷ 1 ∷ []) ≡ fits)
     × (text_for (1 ∷ 1 ∷ []) ≡ 1 ∷ 0 ∷ [])
-    × (check_array (1 ∷ 0 ∷ []) ≡ fault zero-entry 1)
-    × (check_array (1 ∷ 2 ∷ []) ≡ fault long-entry 1)
-    × (check_array (1 ∷ 4294967295 ∷ []) ≡ fault long-entry 1)
+    × (check_array (1 ∷ 0 ∷ []) ≡ fault zero_entry 1)
+    × (check_array (1 ∷ 2 ∷ []) ≡ fault long_entry 1)
+    × (check_array (1 ∷ 4294967295 ∷ []) ≡ fault long_entry 1)
 checked = (refl, refl, refl, refl, refl)
 
 -- What the test on the spans below k tells: a crossing, or that no crossed end is among theirs.
@@ -106,7 +106,7 @@ check_entries_right a i (suc d) e good =
 
     go : (z l : Bool) → eqb (get_or a i 0) 0 ≡ z → ltb (length a) (i + get_or a i 0) ≡ l
         → (((k : ℕ) → k < suc i → InRange a k) → HasVerdict a (check_entries a (suc i) d))
-        → HasVerdict a (fault_if z zero-entry i (fault_if l long-entry i (check_entries a (suc i) d)))
+        → HasVerdict a (fault_if z zero_entry i (fault_if l long_entry i (check_entries a (suc i) d)))
     go true l p q after = (first, omega (arith, eqb-true))
     go false true p q after = (first, omega (arith, eqb-false), omega (arith, ltb-true))
     go false false p q after =

@@ -15,7 +15,7 @@ use Rattle.words.specs.ValidArray.{Valid}
 use Rattle.words.specs.ArrayForest.{end_of, first_for, past_for, forest_first, forest_past}
 use Rattle.words.specs.ArrayFactors.{factor_starts}
 use Rattle.words.specs.Compute.Search.{least_from, LeastFrom, least_from_holds, least_at_most}
-use Rattle.words.specs.Laws.Tabulate.{length-tabulate, get_d_tabulate}
+use Rattle.words.specs.Laws.Tabulate.{length-tabulate, get_or-tabulate}
 use Rattle.words.specs.Laws.ValidSpans.{Unheld, innermost_is, unheld_is, own_unheld, past_of_start, past_of_inner, end_after, end_inside, ends_nest, end_unheld}
 use Rattle.words.specs.Laws.ArrayValid.{array_valid}
 use Rattle.words.specs.Laws.ArrayFactors.{EndChain, starts_ends, array_factorization}
@@ -26,11 +26,11 @@ length-forest_first a = length-tabulate (first_for a) 0 (length a)
 pub length-forest_past : (a : List ℕ) → length (forest_past a) ≡ length a
 length-forest_past a = length-tabulate (past_for a) 0 (length a)
 
-pub get_d_forest_first : (a : List ℕ) (j : ℕ) → j < length a → get_or (forest_first a) j 0 ≡ first_for a j
-get_d_forest_first a j h = rw (get_d_tabulate (first_for a) 0 (length a) j h, zero-add)
+pub get_or-forest_first : (a : List ℕ) (j : ℕ) → j < length a → get_or (forest_first a) j 0 ≡ first_for a j
+get_or-forest_first a j h = rw (get_or-tabulate (first_for a) 0 (length a) j h, zero-add)
 
-pub get_d_forest_past : (a : List ℕ) (j : ℕ) → j < length a → get_or (forest_past a) j 0 ≡ past_for a j
-get_d_forest_past a j h = rw (get_d_tabulate (past_for a) 0 (length a) j h, zero-add)
+pub get_or-forest_past : (a : List ℕ) (j : ℕ) → j < length a → get_or (forest_past a) j 0 ≡ past_for a j
+get_or-forest_past a j h = rw (get_or-tabulate (past_for a) 0 (length a) j h, zero-add)
 
 -- A span that the forest cuts: its first position's span reaches its end, and no span that starts inside it ends past it.
 record Node (a : List ℕ) (s e : ℕ) : Type 0 where
@@ -144,8 +144,8 @@ module _ {ℓ κ} {A : Type ℓ} (O : Letters {ℓ, κ} A) (x : List A) (a : Lis
           let i : c < length a = omega (arith, f.before, w.inside) in (
             cut c (cut_is_right s c e w f) p.0 q.0,
             (
-              get_d_forest_first a c i ∙ first_of_cut a v s c e w f,
-              get_d_forest_past a c i ∙ past_of_cut a v s c e w f,
+              get_or-forest_first a c i ∙ first_of_cut a v s c e w f,
+              get_or-forest_past a c i ∙ past_of_cut a v s c e w f,
               p.1,
               q.1,
             ),
@@ -167,8 +167,8 @@ module _ {ℓ κ} {A : Type ℓ} (O : Letters {ℓ, κ} A) (x : List A) (a : Lis
         within = λ k p q. ends_nest a v i k (omega (arith, end_inside a v i l)) p q;
       }) in
       record {
-        own_first = get_d_forest_first a i l ∙ own;
-        own_past = get_d_forest_past a i l ∙ past_of_start a i own;
+        own_first = get_or-forest_first a i l ∙ own;
+        own_past = get_or-forest_past a i l ∙ past_of_start a i own;
         tree = t.0;
         recorded = t.1;
       }
@@ -187,7 +187,7 @@ module _ {ℓ κ} {A : Type ℓ} (O : Letters {ℓ, κ} A) (x : List A) (a : Lis
       record {
         first_size = length-forest_first a ∙ h.size;
         past_size = length-forest_past a ∙ h.size;
-        factor_starts_lem = factor_starts a;
+        starts = factor_starts a;
         factorization = array_factorization O x a h;
         factor = factor_trees 0 (factor_starts a) (starts_ends a v) (λ m l. absurd (omega arith));
       }
@@ -205,8 +205,8 @@ module _ (a b : List ℕ) (v : Valid a) (w : Valid b) (size : length a ≡ lengt
         go (yes l) =
             let k : ℕ = end_of a j in
             let i : k < length b = omega (arith, end_inside b w j (omega arith)) in
-            let own-k : first_for a k ≡ k = unheld_is a k k (end_unheld a v j h (own_unheld a j own)) in
-            let u : Unheld b k k = own_unheld b k (sym (firsts k (omega arith)) ∙ own-k) in
+            let own_k : first_for a k ≡ k = unheld_is a k k (end_unheld a v j h (own_unheld a j own)) in
+            let u : Unheld b k k = own_unheld b k (sym (firsts k (omega arith)) ∙ own_k) in
             absurd (omega (arith, u j (end_after a v j h)))
 
 -- A valid array is determined by the right forest read off it.
@@ -218,11 +218,11 @@ forest_determines a b v w e f = ext_get_or 0 a b size (λ j h. at j h (ℕ_discr
 
     firsts : (j : ℕ) → j < length a → first_for a j ≡ first_for b j
     firsts j h =
-        sym (get_d_forest_first a j h) ∙ ap (λ (l : List ℕ). get_or l j 0) e ∙ get_d_forest_first b j (omega (arith, size))
+        sym (get_or-forest_first a j h) ∙ ap (λ (l : List ℕ). get_or l j 0) e ∙ get_or-forest_first b j (omega (arith, size))
 
     pasts : (j : ℕ) → j < length a → past_for a j ≡ past_for b j
     pasts j h =
-        sym (get_d_forest_past a j h) ∙ ap (λ (l : List ℕ). get_or l j 0) f ∙ get_d_forest_past b j (omega (arith, size))
+        sym (get_or-forest_past a j h) ∙ ap (λ (l : List ℕ). get_or l j 0) f ∙ get_or-forest_past b j (omega (arith, size))
 
     at : (j : ℕ) → j < length a → Dec (first_for a j ≡ j) → get_or a j 0 ≡ get_or b j 0
     at j h (yes own) =

@@ -23,7 +23,7 @@ given (a ∷ s) n f = a ∷ (cuts (f 0 (omega arith)).tree ++ given s n (λ k h.
 
 -- The positions that a forest gives FIRST and PAST.
 abbrev pub positions {ℓ κ ρ} : {A : Type ℓ} {O : Letters {ℓ, κ} A} {Rule : ℕ → ℕ → ℕ → Type ρ} {x : List A} {first past : List ℕ} → IsForest O Rule x first past → List ℕ
-positions {x = x} f = given f.factor_starts_lem (length x) f.factor
+positions {x = x} f = given f.starts (length x) f.factor
 
 module _ {ρ} {Rule : ℕ → ℕ → ℕ → Type ρ} (inside : (a c b : ℕ) → Rule a c b → (a < c) × (c < b)) {first past : List ℕ} where
   -- Trees over parts that divide the span from i to n are given each of its positions.
@@ -52,7 +52,7 @@ module _ {ℓ κ} {A : Type ℓ} {O : Letters {ℓ, κ} A} {x : List A} {first p
       → positions f ≡ tabulate (λ j. j) 0 (length x)
   forest_positions inside f =
       let z : length x - 0 ≡ length x = omega arith in
-      rw z at (given_are inside 0 f.factor_starts_lem (length x) (factors_divide f.factorization) f.factor)
+      rw z at (given_are inside 0 f.starts (length x) (factors_divide f.factorization) f.factor)
 
   -- The right forest.
   pub right_forest_positions : (f : IsRightForest O x first past) → positions f ≡ tabulate (λ j. j) 0 (length x)

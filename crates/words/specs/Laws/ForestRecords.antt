@@ -166,7 +166,7 @@ forest_of_holds {x = x} {s = s} {cut_at = cut_at} R F =
     record {
       first_size = omega (arith, length-forest_of R first_of 0 s d);
       past_size = omega (arith, length-forest_of R past_of 0 s d);
-      factor_starts_lem = s;
+      starts = s;
       factorization = F;
       factor = factor_trees R (forest_of cut_at first_of n s) (forest_of cut_at past_of n s) 0 s d refl refl;
     }

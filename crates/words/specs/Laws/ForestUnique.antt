@@ -12,7 +12,7 @@ module _ {ℓ κ} {A : Type ℓ} {O : Letters {ℓ, κ} A} {x : List A} {first p
   one_forest {ρ} : {Rule : ℕ → ℕ → ℕ → Type ρ} → ((a c e b : ℕ) → Rule a c b → Rule a e b → c ≡ e) → IsForest O Rule x first past →
       IsForest O Rule x first' past' → (first ≡ first') × (past ≡ past')
   one_forest one f g =
-      forest_unique one f g (factorization_unique O x f.factor_starts_lem g.factor_starts_lem f.factorization g.factorization)
+      forest_unique one f g (factorization_unique O x f.starts g.starts f.factorization g.factorization)
 
   pub right_forest_unique : IsRightForest O x first past → IsRightForest O x first' past' → (first ≡ first') × (past ≡ past')
   right_forest_unique f g = one_forest (λ a c e b u v. right_cut_unique u v) f g

@@ -74,7 +74,7 @@ module _ {ℓ κ ℓ' κ'} {A : Type ℓ} {B : Type ℓ'} {O : Letters {ℓ, κ}
         record {
           first_size = f.first_size ∙ sym alike.size;
           past_size = f.past_size ∙ sym alike.size;
-          factor_starts_lem = s;
+          starts = s;
           factorization = alike_factorization s f.factorization;
           factor =
               λ k l.
@@ -82,7 +82,7 @@ module _ {ℓ κ ℓ' κ'} {A : Type ℓ} {B : Type ℓ'} {O : Letters {ℓ, κ}
         }
       where
         s : List ℕ
-        s = f.factor_starts_lem
+        s = f.starts
 
         carried : (k : ℕ) → Tree (LeftCut O x) first past (get_or s k 0) (get_or s (suc k) (length x)) →
             Tree (LeftCut P y) first past (get_or s k 0) (get_or s (suc k) (length x))

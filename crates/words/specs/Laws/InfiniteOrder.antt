@@ -271,7 +271,7 @@ module _ {ℓ κ} {A : Type ℓ} (O : Letters {ℓ, κ} A) where
       (one_of_three (or_else s.0 lengths) (a ∷ u) v
       (lengths_decide a (a ∷ u) v p q n (omega arith) s.0 (s.1 (λ k l. absurd (omega arith))))))
 
-  -- Of two different non-empty words one is before the other: not neither, and by `infinite-asymmetric` not both.
+  -- Of two different non-empty words one is before the other: not neither, and by `infinite_asymmetric` not both.
   pub infinite_not_neither : (u v : List A) → 0 < length u → 0 < length v → ¬ (u ≡ v) → ¬ ((¬ InfiniteLess O u v) × (¬ InfiniteLess O v u))
   infinite_not_neither u v p q d n = infinite_irrefutable u v p q go
     where

@@ -195,7 +195,7 @@ module _ {ℓ κ} {A : Type ℓ} {O : Letters {ℓ, κ} A} (D : Decided O) (z : 
       record {
         first_size = p;
         past_size = q;
-        factor_starts_lem = factorization_of D x;
+        starts = factorization_of D x;
         factorization = factorization_of_holds D x;
         factor =
             λ k l.

@@ -6,9 +6,9 @@ use Rattle.std.proofs.Math.Decide.{dec_lt}
 
 -- At most one number is the least at which P holds.
 pub least_unique {ℓ} : (P : ℕ → Type ℓ) {i j : ℕ} → P i → ((k : ℕ) → k < i → ¬ P k) → P j → ((k : ℕ) → k < j → ¬ P k) → i ≡ j
-least_unique P {i} {j} p below-i q below-j =
-    let low : ¬ (i < j) = λ l. below-j i l p in
-    let high : ¬ (j < i) = λ l. below-i j l q in
+least_unique P {i} {j} p below_i q below_j =
+    let low : ¬ (i < j) = λ l. below_j i l p in
+    let high : ¬ (j < i) = λ l. below_i j l q in
     omega arith
 
 -- What holds below i, and at i, holds below i + 1.

@@ -9,7 +9,7 @@ use Rattle.words.specs.Runs.{SameLetter}
 use Rattle.words.specs.Tabulate.{tabulate}
 use Rattle.words.specs.Compute.Search.{least_from, LeastFrom, least_from_holds}
 use Rattle.words.specs.Laws.Numbers.{least_unique}
-use Rattle.words.specs.Laws.Tabulate.{length-tabulate, get_d_tabulate}
+use Rattle.words.specs.Laws.Tabulate.{length-tabulate, get_or-tabulate}
 use Rattle.words.specs.Laws.Compared.{all_irrefutable}
 use Rattle.words.specs.Laws.Periods.{same_letters, letters_same}
 use Rattle.words.specs.Laws.RunRenaming.{SameEqualities}
@@ -57,7 +57,7 @@ module _ {ℓ} {A : Type ℓ} (x : List A) (decided : (i j : ℕ) → i < length
   names_size = length-tabulate name 0 (length x)
 
   names_entry : (i : ℕ) → i < length x → get_or names i 0 ≡ name i
-  names_entry i h = get_d_tabulate name 0 (length x) i h ∙ ap name (zero-add i)
+  names_entry i h = get_or-tabulate name 0 (length x) i h ∙ ap name (zero-add i)
 
   -- Equal letters have one name.
   same_name : (i k : ℕ) → i < length x → k < length x → SameLetter x i k → name i ≡ name k

@@ -7,7 +7,7 @@ use Rattle.std.proofs.Math.Decide.{dec_lt, ℕ_discrete}
 use Rattle.words.specs.Tabulate.{tabulate}
 use Rattle.words.specs.ValidArray.{Valid, one, holding, letter_for, text_for}
 use Rattle.words.specs.ArrayForest.{end_of}
-use Rattle.words.specs.Laws.Tabulate.{length-tabulate, get_d_tabulate}
+use Rattle.words.specs.Laws.Tabulate.{length-tabulate, get_or-tabulate}
 
 -- Position k comes before i in that order: its span ends later, or at the same place and it stands further left.
 abbrev pub sorts_before : List ℕ → ℕ → ℕ → Bool
@@ -85,5 +85,5 @@ text_is_assigned a v =
     ext_get_or 0 (text_for a) (tabulate place 0 (length a)) (length-tabulate (letter_for a) 0 (length a) ∙ sym (length-tabulate place 0 (length a)))
     (λ i h.
     let l : i < length a = omega (arith, length-tabulate (letter_for a) 0 (length a)) in
-    get_d_tabulate (letter_for a) 0 (length a) i l ∙ ap (letter_for a) (zero-add i) ∙ letter_is_place a v i l ∙
-    sym (get_d_tabulate place 0 (length a) i l ∙ ap place (zero-add i)))
+    get_or-tabulate (letter_for a) 0 (length a) i l ∙ ap (letter_for a) (zero-add i) ∙ letter_is_place a v i l ∙
+    sym (get_or-tabulate place 0 (length a) i l ∙ ap place (zero-add i)))

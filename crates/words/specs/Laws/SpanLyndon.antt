@@ -19,8 +19,8 @@ module _ {ℓ κ} {A : Type ℓ} (O : Letters {ℓ, κ} A) (z : A) (x : List A) 
   pub length-span : (i e : ℕ) → e ≤ length x → length (span i e x) ≡ e - i
   length-span i e h = length-drop i (take e x) ∙ ap (λ (m : ℕ). m - i) (length-take-le e x h)
 
-  pub get_d_span : (i e k : ℕ) → i + k < e → get_or (span i e x) k z ≡ letters z x (i + k)
-  get_d_span i e k h = get_or-drop i (take e x) k z ∙ get_or-take e x (i + k) z h
+  pub get_or-span : (i e k : ℕ) → i + k < e → get_or (span i e x) k z ≡ letters z x (i + k)
+  get_or-span i e k h = get_or-drop i (take e x) k z ∙ get_or-take e x (i + k) z h
 
   -- Less on spans, from words to positions.
   pub less_span : (i e j f : ℕ) → e ≤ length x → f ≤ length x → i ≤ e → Less O (span i e x) (span j f x) → SpanLess O (letters z x) i e j f
@@ -31,9 +31,9 @@ module _ {ℓ κ} {A : Type ℓ} (O : Letters {ℓ, κ} A) (z : A) (x : List A) 
           let p : i + d < e = omega (arith, length-span i e he, w.in_left) in
           let q : j + d < f = omega (arith, length-span j f hf, w.in_right) in
           differs d p q
-          (λ k l. sym (get_d_span i e k (omega arith)) ∙ w.alike k l ∙ get_d_span j f k (omega arith))
-          (subst (λ (c : A). Smaller O c (letters z x (j + d))) (get_d_span i e d p)
-          (subst (λ (c : A). Smaller O (get_or (span i e x) d z) c) (get_d_span j f d q) w.smaller))
+          (λ k l. sym (get_or-span i e k (omega arith)) ∙ w.alike k l ∙ get_or-span j f k (omega arith))
+          (subst (λ (c : A). Smaller O c (letters z x (j + d))) (get_or-span i e d p)
+          (subst (λ (c : A). Smaller O (get_or (span i e x) d z) c) (get_or-span j f d q) w.smaller))
 
       prefix : (length (span i e x) < length (span j f x)) × Alike z (span i e x) (span j f x) (length (span i e x)) →
           SpanLess O (letters z x) i e j f
@@ -41,7 +41,7 @@ module _ {ℓ κ} {A : Type ℓ} (O : Letters {ℓ, κ} A) (z : A) (x : List A) 
           let m : length (span i e x) ≡ e - i = length-span i e he in
           let q : j + (e - i) < f = omega (arith, length-span j f hf, w.0, m) in
           shorter (e - i) (omega arith) q
-          (λ k l. sym (get_d_span i e k (omega arith)) ∙ w.1 k (omega arith) ∙ get_d_span j f k (omega arith))
+          (λ k l. sym (get_or-span i e k (omega arith)) ∙ w.1 k (omega arith) ∙ get_or-span j f k (omega arith))
 
       go : StronglyLess O (span i e x) (span j f x) ⊎ ProperPrefix (span i e x) (span j f x) → SpanLess O (letters z x) i e j f
       go (inl s) = let w = strongly_less_differs O z (span i e x) (span j f x) s in strong w.0 w.1
@@ -55,16 +55,16 @@ module _ {ℓ κ} {A : Type ℓ} (O : Letters {ℓ, κ} A) (z : A) (x : List A) 
       (record {
         in_left = omega (arith, length-span i e he);
         in_right = omega (arith, length-span j f hf);
-        alike = λ k l. get_d_span i e k (omega arith) ∙ g k l ∙ sym (get_d_span j f k (omega arith));
+        alike = λ k l. get_or-span i e k (omega arith) ∙ g k l ∙ sym (get_or-span j f k (omega arith));
         smaller =
-            subst (λ (c : A). Smaller O c (get_or (span j f x) d z)) (sym (get_d_span i e d p))
-            (subst (λ (c : A). Smaller O (letters z x (i + d)) c) (sym (get_d_span j f d q)) s);
+            subst (λ (c : A). Smaller O c (get_or (span j f x) d z)) (sym (get_or-span i e d p))
+            (subst (λ (c : A). Smaller O (letters z x (i + d)) c) (sym (get_or-span j f d q)) s);
       }))
   span_less i e j f he hf (shorter d p q g) =
       let m : length (span i e x) ≡ d = omega (arith, length-span i e he) in
       inr
       (alike_proper_prefix O z (span i e x) (span j f x) (omega (arith, length-span j f hf))
-      (λ k l. get_d_span i e k (omega arith) ∙ g k (omega arith) ∙ sym (get_d_span j f k (omega arith))))
+      (λ k l. get_or-span i e k (omega arith) ∙ g k (omega arith) ∙ sym (get_or-span j f k (omega arith))))
 
   pub span_split : (a k b : ℕ) → a ≤ k → k ≤ b → b ≤ length x → span a b x ≡ span a k x ++ span k b x
   span_split a k b p q r =

@@ -10,12 +10,12 @@ length-tabulate f i zero = refl
 length-tabulate f i (suc k) = ap suc (length-tabulate f (suc i) k)
 
 -- Value j is that of f at i + j.
-pub get_d_tabulate : (f : ℕ → ℕ) (i k j : ℕ) → j < k → get_or (tabulate f i k) j 0 ≡ f (i + j)
-get_d_tabulate f i zero j h = absurd (omega arith)
-get_d_tabulate f i (suc k) zero h = ap f (omega arith)
-get_d_tabulate f i (suc k) (suc j) h =
+pub get_or-tabulate : (f : ℕ → ℕ) (i k j : ℕ) → j < k → get_or (tabulate f i k) j 0 ≡ f (i + j)
+get_or-tabulate f i zero j h = absurd (omega arith)
+get_or-tabulate f i (suc k) zero h = ap f (omega arith)
+get_or-tabulate f i (suc k) (suc j) h =
     let e : suc i + j ≡ i + suc j = omega arith in
-    rw e at (get_d_tabulate f (suc i) k j (omega arith))
+    rw e at (get_or-tabulate f (suc i) k j (omega arith))
 
 -- A row and the row that goes on behind it are one row.
 pub tabulate_append : (f : ℕ → ℕ) (i k m : ℕ) → tabulate f i k ++ tabulate f (i + k) m ≡ tabulate f i (k + m)
@@ -31,4 +31,4 @@ tabulate_append f i (suc k) m =
 -- What holds of each value holds of each entry of the row.
 pub tabulate_each {ℓ} : (P : ℕ → ℕ → Type ℓ) (f : ℕ → ℕ) (n : ℕ) → ((i : ℕ) → i < n → P i (f i)) → (i : ℕ) → i < n → P i (get_or (tabulate f 0 n) i 0)
 tabulate_each P f n h i l =
-    subst (P i) (sym (ap f (zero-add i)) ∙ sym (get_d_tabulate f 0 n i l)) (h i l)
+    subst (P i) (sym (ap f (zero-add i)) ∙ sym (get_or-tabulate f 0 n i l)) (h i l)

@@ -116,7 +116,7 @@ module _
 -- Forests under a rule that allows one cut of a span, over the same factors, are equal.
 pub forest_unique {ℓ κ ρ} : {A : Type ℓ} {O : Letters {ℓ, κ} A} {x : List A} {Rule : ℕ → ℕ → ℕ → Type ρ} {first past first' past' : List ℕ}
     → ((a c e b : ℕ) → Rule a c b → Rule a e b → c ≡ e)
-    → (f : IsForest O Rule x first past) (g : IsForest O Rule x first' past') → f.factor_starts_lem ≡ g.factor_starts_lem
+    → (f : IsForest O Rule x first past) (g : IsForest O Rule x first' past') → f.starts ≡ g.starts
     → (first ≡ first') × (past ≡ past')
 forest_unique {x = x} {Rule = Rule} {first = first} {past = past} {first' = first'} {past' = past'} unique f g e = (
   ext_get_or 0 first first'
@@ -128,7 +128,7 @@ forest_unique {x = x} {Rule = Rule} {first = first} {past = past} {first' = firs
 )
   where
     s : List ℕ
-    s = f.factor_starts_lem
+    s = f.starts
 
     second_factor : (k : ℕ) → k < length s → Tree Rule first' past' (get_or s k 0) (get_or s (suc k) (length x))
     second_factor k h = rw e (g.factor k (rw e at h))

@@ -8,7 +8,7 @@ use Rattle.words.specs.LyndonArray.{IsLyndonArray}
 use Rattle.words.specs.ValidArray.{Valid, one, holding, letter_for, text_for}
 use Rattle.words.specs.Permutation.{EachOnce}
 use Rattle.words.specs.ArrayForest.{end_of}
-use Rattle.words.specs.Laws.Tabulate.{length-tabulate, get_d_tabulate}
+use Rattle.words.specs.Laws.Tabulate.{length-tabulate, get_or-tabulate}
 use Rattle.words.specs.Laws.SpanLyndon.{letters}
 use Rattle.words.specs.Laws.SuffixOrder.{SuffixLess, parts, NextSmaller}
 use Rattle.words.specs.Laws.NextSmaller.{empty_suffix_less}
@@ -143,8 +143,8 @@ module _ (a : List ℕ) (v : Valid a) where
 pub length-text_for : (a : List ℕ) → length (text_for a) ≡ length a
 length-text_for a = length-tabulate (letter_for a) 0 (length a)
 
-pub get_d_text_for : (a : List ℕ) (i : ℕ) → i < length a → get_or (text_for a) i 0 ≡ letter_for a i
-get_d_text_for a i h = rw (get_d_tabulate (letter_for a) 0 (length a) i h, zero-add)
+pub get_or-text_for : (a : List ℕ) (i : ℕ) → i < length a → get_or (text_for a) i 0 ≡ letter_for a i
+get_or-text_for a i h = rw (get_or-tabulate (letter_for a) 0 (length a) i h, zero-add)
 
 module _ (a : List ℕ) (v : Valid a) where
   abbrev x : ℕ → ℕ
@@ -155,7 +155,7 @@ module _ (a : List ℕ) (v : Valid a) where
   smaller_letter i j p q l =
       let e : i + 0 ≡ i = omega arith in
       let f : j + 0 ≡ j = omega arith in
-      let h : x i < x j = omega (arith, get_d_text_for a i p, get_d_text_for a j q) in
+      let h : x i < x j = omega (arith, get_or-text_for a i p, get_or-text_for a j q) in
       parts 0 (omega arith) (omega arith) (λ k m. absurd (omega arith)) (rw (e, f) (λ z. omega (arith, z, h), h))
 
   -- The span of every position ends at the next smaller suffix of the text.
@@ -202,5 +202,5 @@ each_once n x s b d =
 pub text_each_once : (a : List ℕ) → Valid a → EachOnce (length a) (text_for a)
 text_each_once a v =
     each_once (length a) (text_for a) (length-text_for a)
-    (λ i h. rw (get_d_text_for a i h) (letter_below a v i h))
-    (λ i j l h e. letters_differ a v i j l h (sym (get_d_text_for a i (omega arith)) ∙ e ∙ get_d_text_for a j h))
+    (λ i h. rw (get_or-text_for a i h) (letter_below a v i h))
+    (λ i j l h e. letters_differ a v i j l h (sym (get_or-text_for a i (omega arith)) ∙ e ∙ get_or-text_for a j h))
