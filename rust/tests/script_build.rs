@@ -1,6 +1,7 @@
 //! When the script `./repeats` builds, and when not: in a small tree of its own, with a stand-in for `rt` that notes its calls.
-use std::fs::{self, create_dir_all, read_to_string, write, Permissions};
-use std::os::unix::fs::{symlink, MetadataExt, PermissionsExt};
+use std::fs::{self, create_dir_all, read_to_string, write};
+use std::io::Write;
+use std::os::unix::fs::{symlink, MetadataExt};
 use std::os::unix::process::CommandExt;
 use std::path::{Path, PathBuf};
 use std::process::{Command, Output, Stdio};
@@ -43,7 +44,7 @@ impl Tree {
             create_dir_all(tree.at(part)).unwrap();
         }
         let root = Path::new(env!("CARGO_MANIFEST_DIR")).join("..");
-        fs::copy(root.join("repeats"), tree.at("tree/repeats")).unwrap();
+        tree.executable("tree/repeats", &read_to_string(root.join("repeats")).unwrap());
         fs::copy(root.join("rust/Cargo.toml"), tree.at("tree/rust/Cargo.toml")).unwrap();
         write(tree.at("tree/crates.txt"), "a:\nb: a\n").unwrap();
         write(tree.at("tree/crates/a/src/lib.rt"), "one").unwrap();
@@ -60,9 +61,12 @@ impl Tree {
         self.0.join(part)
     }
 
+    /// Written by a process of its own: a file that is open for writing here would be busy as long as another test's child, begun meanwhile, has
+    /// it from us, and could not be run.
     fn executable(&self, part: &str, text: &str) {
-        write(self.at(part), text).unwrap();
-        fs::set_permissions(self.at(part), Permissions::from_mode(0o755)).unwrap();
+        let mut child = Command::new("sh").args(["-c", "cat >\"$0\" && chmod 755 \"$0\""]).arg(self.at(part)).stdin(Stdio::piped()).spawn().unwrap();
+        child.stdin.take().unwrap().write_all(text.as_bytes()).unwrap();
+        assert!(child.wait().unwrap().success());
     }
 
     /// What the next build leaves.
