@@ -5,7 +5,7 @@ use mathlib.Core.Bool.{Bool, true, false}
 use mathlib.Core.List.{List}
 use Prim.Native.Nat.{ℕ, ◌+◌, ◌<◌, ◌≤◌, ◌-◌}
 use native.Mathlib.Omega.{arith}
-use lib.ListN.{length, get_or}
+use lib.ListN.{length, get_or, take, drop}
 use Rattle.words.specs.Decided.{decided_order}
 use Rattle.letters.specs.declared.Comparison.{Comparison}
 use Rattle.letters.specs.declared.Comparison.TheVariants.{Below}
@@ -13,13 +13,32 @@ use Rattle.letters.specs.Compared.{comparison_of}
 use Rattle.letters.specs.Ranks.{rank_by, rank_row, rank_differs}
 use Rattle.letters.specs.RankLaws.{row_length, row_letter, ranks_differ, ranks_agree}
 use Rattle.array.specs.Core.Join.{Agreeing}
-use Rattle.array.specs.Core.Place.{settled_at}
-use Rattle.array.proofs.Comparing.{Comparing}
+use Rattle.answer.specs.Limits.{max_length}
+use Rattle.agreement.specs.CommonPrefix.{common_prefix}
+use Rattle.agreement.specs.CommonPrefixLaws.{rests_agree}
+use Rattle.array.specs.Core.Place.{settled_at, remembered_at}
+use Rattle.array.proofs.Comparing.{JoinLoop, Comparing, comparing}
 use Rattle.array.proofs.ComparisonEnds.{Compared, agree_more, letter_told, settled_below}
 
 -- The text has as many letters as its row of ranks.
 pub row_size : (ranks text : List ℕ) → length text ≡ length (rank_row ranks text)
 row_size ranks text = sym (row_length ranks text)
+
+-- What is known where the comparison begins, by what the code knows of the text.
+pub ranked_comparing : (ranks text : List ℕ) {before buf : List ℕ} {i j k₀ g₀ l s : ℕ} → JoinLoop 0 (rank_row ranks text) before buf i j k₀ g₀ →
+    j < length text → length (rank_row ranks text) ≤ length before → length (rank_row ranks text) ≤ max_length → l ≡ get_or buf j 0 →
+    s ≡ remembered_at buf j l → Comparing 0 (rank_row ranks text) before buf i j k₀ g₀ l s
+ranked_comparing ranks text w inside = comparing w (omega (arith, inside, row_length ranks text))
+
+-- How far the rests of the rows agree, as the calls that measure it tell.
+pub ranked_rests : (ranks text : List ℕ) (a b : ℕ) {r : ℕ} →
+    r ≡ common_prefix (rank_row ranks (take (length text - a) (drop a text))) (rank_row ranks (take (length text - b) (drop b text))) →
+    r ≡ common_prefix (drop a (rank_row ranks text)) (drop b (rank_row ranks text))
+ranked_rests ranks text a b {r} e = rests_agree ranks text text a b r e
+
+-- A position in the text is one in its row.
+pub in_row : (ranks text : List ℕ) {j : ℕ} → j < length text → j < length (rank_row ranks text)
+in_row ranks text h = omega (arith, h, row_length ranks text)
 
 module _ (ranks text : List ℕ) {order : ℕ} {before buf : List ℕ} {i j k₀ g₀ l s : ℕ} (w : Comparing order (rank_row ranks text) before buf i j k₀ g₀ l s)
     {k : ℕ} (g : Agreeing (rank_row ranks text) i j k) (h : k < l) where

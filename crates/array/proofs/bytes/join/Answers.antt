@@ -1,64 +1,54 @@
 -- `array::bytes::join` meets its contract. The outer loop keeps `JoinLoop`; the comparison keeps the letters known to agree. At each moment w is what is
 -- known where the comparison begins, and `told` what the comparison says, by the tests on each way out of it.
 -- Assumes nothing.
-use Rattle.std.proofs.Common.{◌≡◌, ◌<◌, ◌≤◌, length}
+use Rattle.std.proofs.Common.{◌≤◌, length}
 use native.Mathlib.Omega.{arith}
 use Rattle.letters.specs.Ranks.{rank_row}
-use Rattle.letters.specs.RankLaws.{row_length}
-use Rattle.array.proofs.Comparing.{Comparing, comparing}
 use Rattle.array.proofs.ComparisonEnds.{Compared, ended_same, ended_above, past_below}
-use Rattle.array.proofs.RankedLetters.{ranked_more, ranked_told, ranked_settled}
+use Rattle.array.proofs.RankedLetters.{row_size, ranked_comparing, ranked_more, ranked_told, ranked_settled}
 use Rattle.array.proofs.JoinSteps.{join_step, joined_stopped, joined_end}
 use Rattle.array.proofs.bytes.join.Goals as goal
-use Rattle.array.proofs.bytes.join.Goals.{then-factor-k+then-word-factor, then-factor-k+else-word-factor, else-factor-k+then-differ+then-word-k, else-factor-k+then-differ+else-word-k, else-factor-k+else-differ+then-k-word+then-word-settled, then-known-k, else-known-k}
+use Rattle.array.proofs.bytes.join.Goals.{then-factor-k+then-word-factor, then-factor-k+else-word-factor, then-known-k}
+use Rattle.array.proofs.bytes.join.Goals.{else-factor-k+then-differ+then-word-k, else-factor-k+then-differ+else-word-k, else-known-k}
+use Rattle.array.proofs.bytes.join.Goals.{else-factor-k+else-differ+then-k-word+then-word-settled}
 
 pub settled-settled-requires : goal.settled-settled-requires
 settled-settled-requires c =
-    let size : length (rank_row c.args.keys.now c.args.text.now) ≡ length c.args.text.now = row_length c.args.keys.now c.args.text.now in
-    let inside : c.loop-j.j < length (rank_row c.args.keys.now c.args.text.now) = omega (arith, size) in
-    let w : Comparing 0 (rank_row c.args.keys.now c.args.text.now) c.args.buf.now c.loop-j.buf c.args.i c.loop-j.j c.loop-j.k c.loop-j.part
-    c.wide-factor.result c.remembered-known.result =
-    search comparing
+    let w =
+    ranked_comparing c.args.keys.now c.args.text.now c.loop-j.invariant c.if-text-j.false c.requires.fits c.requires.small c.wide-factor.ensures.number
+    c.remembered-known.ensures.result
     in
     (omega (arith, w), omega (arith, w), w.short)
 
 pub loop-k-preserved-else-word-settled : goal.loop-k-preserved-else-word-settled
 loop-k-preserved-else-word-settled c =
-    let size : length (rank_row c.args.keys.now c.args.text.now) ≡ length c.args.text.now = row_length c.args.keys.now c.args.text.now in
-    let inside : c.loop-j.j < length (rank_row c.args.keys.now c.args.text.now) = omega (arith, size) in
-    let w : Comparing 0 (rank_row c.args.keys.now c.args.text.now) c.args.buf.now c.loop-j.buf c.args.i c.loop-j.j c.loop-j.k c.loop-j.part
-    c.wide-factor.result c.remembered-known.result =
-    search comparing
+    let w =
+    ranked_comparing c.args.keys.now c.args.text.now c.loop-j.invariant c.if-text-j.false c.requires.fits c.requires.small c.wide-factor.ensures.number
+    c.remembered-known.ensures.result
     in
     search (ranked_more c.args.keys.now c.args.text.now w c.loop-k.invariant c.if-factor-k.false)
 
 pub loop-k-preserved : goal.loop-k-preserved
 loop-k-preserved c =
-    let size : length (rank_row c.args.keys.now c.args.text.now) ≡ length c.args.text.now = row_length c.args.keys.now c.args.text.now in
-    let inside : c.loop-j.j < length (rank_row c.args.keys.now c.args.text.now) = omega (arith, size) in
-    let w : Comparing 0 (rank_row c.args.keys.now c.args.text.now) c.args.buf.now c.loop-j.buf c.args.i c.loop-j.j c.loop-j.k c.loop-j.part
-    c.wide-factor.result c.remembered-known.result =
-    search comparing
+    let w =
+    ranked_comparing c.args.keys.now c.args.text.now c.loop-j.invariant c.if-text-j.false c.requires.fits c.requires.small c.wide-factor.ensures.number
+    c.remembered-known.ensures.result
     in
     search (ranked_more c.args.keys.now c.args.text.now w c.loop-k.invariant c.if-factor-k.false)
 
 pub restore-requires : goal.restore-requires
 restore-requires c =
-    let size : length (rank_row c.args.keys.now c.args.text.now) ≡ length c.args.text.now = row_length c.args.keys.now c.args.text.now in
-    let inside : c.loop-j.j < length (rank_row c.args.keys.now c.args.text.now) = omega (arith, size) in
-    let w : Comparing 0 (rank_row c.args.keys.now c.args.text.now) c.args.buf.now c.loop-j.buf c.args.i c.loop-j.j c.loop-j.k c.loop-j.part
-    c.wide-factor.result c.remembered-known.result =
-    search comparing
+    let w =
+    ranked_comparing c.args.keys.now c.args.text.now c.loop-j.invariant c.if-text-j.false c.requires.fits c.requires.small c.wide-factor.ensures.number
+    c.remembered-known.ensures.result
     in
     omega (arith, w)
 
 pub loop-j-preserved : goal.loop-j-preserved
 loop-j-preserved c =
-    let size : length (rank_row c.args.keys.now c.args.text.now) ≡ length c.args.text.now = row_length c.args.keys.now c.args.text.now in
-    let inside : c.loop-j.j < length (rank_row c.args.keys.now c.args.text.now) = omega (arith, size) in
-    let w : Comparing 0 (rank_row c.args.keys.now c.args.text.now) c.args.buf.now c.loop-j.buf c.args.i c.loop-j.j c.loop-j.k c.loop-j.part
-    c.wide-factor.result c.remembered-known.result =
-    search comparing
+    let w =
+    ranked_comparing c.args.keys.now c.args.text.now c.loop-j.invariant c.if-text-j.false c.requires.fits c.requires.small c.wide-factor.ensures.number
+    c.remembered-known.ensures.result
     in
     let g = c.loop-k.invariant in
     let told : Compared 0 (rank_row c.args.keys.now c.args.text.now) c.args.i c.loop-j.j c.if-factor-k.k c.if-factor-k.outcome =
@@ -77,17 +67,14 @@ loop-j-preserved c =
 
 pub returns-then-text-j : goal.returns-then-text-j
 returns-then-text-j c =
-    let size : length (rank_row c.args.keys.now c.args.text.now) ≡ length c.args.text.now = row_length c.args.keys.now c.args.text.now in
-    let ended : length (rank_row c.args.keys.now c.args.text.now) ≤ c.loop-j.j = omega (arith, size) in
+    let ended : length (rank_row c.args.keys.now c.args.text.now) ≤ c.loop-j.j = omega (arith, row_size c.args.keys.now c.args.text.now) in
     search joined_end
 
 pub returns-in_default : goal.returns-in_default
 returns-in_default c =
-    let size : length (rank_row c.args.keys.now c.args.text.now) ≡ length c.args.text.now = row_length c.args.keys.now c.args.text.now in
-    let inside : c.loop-j.j < length (rank_row c.args.keys.now c.args.text.now) = omega (arith, size) in
-    let w : Comparing 0 (rank_row c.args.keys.now c.args.text.now) c.args.buf.now c.loop-j.buf c.args.i c.loop-j.j c.loop-j.k c.loop-j.part
-    c.wide-factor.result c.remembered-known.result =
-    search comparing
+    let w =
+    ranked_comparing c.args.keys.now c.args.text.now c.loop-j.invariant c.if-text-j.false c.requires.fits c.requires.small c.wide-factor.ensures.number
+    c.remembered-known.ensures.result
     in
     let g = c.loop-k.invariant in
     let told : Compared 0 (rank_row c.args.keys.now c.args.text.now) c.args.i c.loop-j.j c.if-factor-k.k c.if-factor-k.outcome =

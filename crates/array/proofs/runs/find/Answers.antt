@@ -1,8 +1,5 @@
 -- `array::runs::find` meets its contract: both passes, and the sort.
 -- Assumes nothing.
-use Rattle.words.specs.Letters.{rising, falling}
-use Rattle.words.specs.Laws.OrderedAlike.{OrderedAlike}
-use Rattle.letters.specs.Ranks.{rank_row}
 use Rattle.letters.specs.RankLaws.{fitting_bytes}
 use Rattle.array.proofs.RankedLetters.{row_size}
 use Rattle.array.proofs.PassLaws.{first_ready, second_ready}
