@@ -1,18 +1,18 @@
 -- What a buffer holds after a call.
 -- Assumes nothing.
-use Rattle.std.specs.Prelude.{List, ◌++◌, ℕ, length, drop}
+use Rattle.std.specs.Prelude.{List, ◌++◌, ℕ, length, drop, Result, Ok, Err}
+use Rattle.answer.specs.declared.Accepted.{Accepted}
+use Rattle.answer.specs.declared.Refusal.{Refusal}
 use Rattle.answer.specs.declared.Answer.{Answer}
-use Rattle.answer.specs.declared.Outcome.{Outcome}
-use Rattle.answer.specs.declared.Outcome.TheVariants.{Accepted, Refused}
 
 -- A buffer into which l was written from its start: places past those written keep their content.
 abbrev pub written : List ℕ → List ℕ → List ℕ
 written l before = l ++ drop (length l) before
 
 -- What a buffer holds after an outcome: l written into it where the call accepted, else what it held before.
-abbrev pub content_in : Outcome → List ℕ → List ℕ → List ℕ
-content_in (Accepted count comparisons) l before = written l before
-content_in (Refused reason position) l before = before
+abbrev pub content_in : Result Accepted Refusal → List ℕ → List ℕ → List ℕ
+content_in (Ok accepted) l before = written l before
+content_in (Err refusal) l before = before
 
 -- What a buffer holds after an answer.
 abbrev pub content_after : Answer → List ℕ → List ℕ → List ℕ

@@ -1,33 +1,28 @@
 -- What a buffer holds after a call that refuses, and after one that accepts.
 -- Assumes nothing.
-use Rattle.std.specs.Prelude.{◌≡◌, List, ℕ, length, take, drop}
+use Rattle.std.specs.Prelude.{◌≡◌, List, ℕ, length, take, drop, Result, Ok}
 use Rattle.std.proofs.Common.{sym, ap, ◌∙◌, take_at, drop_at}
-use Rattle.answer.specs.declared.Answer.{Answer}
-use Rattle.answer.specs.declared.Outcome.{Outcome}
-use Rattle.answer.specs.declared.Outcome.TheVariants.{Accepted, Refused}
 use Rattle.answer.specs.declared.Reason.{Reason}
+use Rattle.answer.specs.declared.Accepted.{Accepted}
+use Rattle.answer.specs.declared.Answer.{Answer}
+use Rattle.answer.specs.declared.Refusal.{Refusal}
 use Rattle.answer.specs.Answers.{accepted_after, refused_for}
 use Rattle.answer.specs.AfterCall.{written, content_in, content_after}
 
--- An outcome that refuses leaves a buffer as it was.
-pub outcome_refused : (o : Outcome) (reason : Reason) (position : ℕ) → o ≡ Refused reason position → (l before : List ℕ) →
-    before ≡ content_in o l before
-outcome_refused o reason position e l before = sym (ap (λ (q : Outcome). content_in q l before) e)
-
--- An outcome that accepts leaves what was written.
-pub outcome_accepted : (o : Outcome) (count : ℕ) {comparisons : ℕ} → o ≡ Accepted count comparisons → (l before after : List ℕ) →
-    after ≡ written l before → after ≡ content_in o l before
-outcome_accepted o count e l before after h = h ∙ sym (ap (λ (q : Outcome). content_in q l before) e)
+-- A call whose outcome accepts leaves what it has written.
+pub content_ok : (a : Answer) {accepted : Accepted} → a.outcome ≡ Ok accepted → (l before : List ℕ) {after : List ℕ} → after ≡ written l before →
+    after ≡ content_after a l before
+content_ok a e l before h = h ∙ sym (ap (λ (o : Result Accepted Refusal). content_in o l before) e)
 
 -- A refused call leaves a buffer as it was.
 pub content_refused : (a : Answer) (reason : Reason) (position : ℕ) → a ≡ refused_for reason position → (l before : List ℕ) →
     before ≡ content_after a l before
-content_refused a reason position e l before = outcome_refused a.outcome reason position (ap (λ (b : Answer). b.outcome) e) l before
+content_refused a reason position e l before = sym (ap (λ (t : Answer). content_after t l before) e)
 
 -- An accepted call leaves what it has written.
 pub content_accepted : (a : Answer) (count : ℕ) {comparisons : ℕ} → a ≡ accepted_after count comparisons → (l before after : List ℕ) →
     after ≡ written l before → after ≡ content_after a l before
-content_accepted a count e l before after h = outcome_accepted a.outcome count (ap (λ (b : Answer). b.outcome) e) l before after h
+content_accepted a count e l before after h = h ∙ sym (ap (λ (t : Answer). content_after t l before) e)
 
 -- What a buffer holds after an answer, it holds after an equal one.
 pub content_handed_on : (a b : Answer) (l before after : List ℕ) → a ≡ b → after ≡ content_after a l before → after ≡ content_after b l before

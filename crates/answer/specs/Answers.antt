@@ -1,10 +1,10 @@
 -- Answers: how they are made, and the number, value and comparisons of each.
 -- Assumes nothing.
-use Rattle.std.specs.Prelude.{◌≡◌, refl, Bool, cond, List, [], ◌∷◌, ℕ, zero, suc, eqb}
-use Rattle.std.proofs.Common.{sym, ap, ap₂, ◌∙◌, arith}
+use Rattle.std.specs.Prelude.{◌≡◌, refl, Bool, true, false, cond, List, [], ◌∷◌, ℕ, zero, suc, eqb, Result, Ok, Err, is_ok}
+use Rattle.std.proofs.Common.{sym, ap, ap₂, ◌∙◌}
+use Rattle.answer.specs.declared.Accepted.{Accepted}
 use Rattle.answer.specs.declared.Answer.{Answer}
-use Rattle.answer.specs.declared.Outcome.{Outcome}
-use Rattle.answer.specs.declared.Outcome.TheVariants.{Accepted, Refused}
+use Rattle.answer.specs.declared.Refusal.{Refusal}
 use Rattle.answer.specs.declared.Reason.{Reason}
 use Rattle.answer.specs.declared.Reason.TheVariants.{EmptyText, TextTooLong, UnknownOrder, ShortOutput, ShortWork, ZeroEntry, LongEntry, CrossingSpans}
 use Rattle.answer.specs.declared.Reason.TheVariants.{NoHeader, BadName, UnfitByte, SecondRecord, NoLetters, TooManyLetters, FileTooLong}
@@ -13,34 +13,38 @@ use Rattle.answer.specs.Reasons.{number_of}
 
 -- Accepted, with its count and the letter comparisons that were counted (document 02, E7).
 abbrev pub accepted_after : ℕ → ℕ → Answer
-accepted_after count comparisons = record { outcome = Accepted count comparisons }
+accepted_after count comparisons = record { outcome = Ok (record { count = count; comparisons = comparisons }) }
 
 -- Accepted, with its count: in every call but the factor list the second number is 0 (document 02, E7).
 abbrev pub accepted_with : ℕ → Answer
 accepted_with count = accepted_after count 0
 
+-- Refused.
+abbrev pub refused_by : Refusal → Answer
+refused_by refusal = record { outcome = Err refusal }
+
 -- Refused, with the reason and the position.
 abbrev pub refused_for : Reason → ℕ → Answer
-refused_for reason position = record { outcome = Refused reason position }
+refused_for reason position = refused_by (record { reason = reason; position = position })
 
 -- Refused where a check fails, else what follows.
 abbrev pub refused_if : Bool → Reason → ℕ → Answer → Answer
 refused_if fails reason position rest = cond fails (refused_for reason position) rest
 
--- 0 for an accepted outcome, else the reason's number.
-abbrev pub number_in : Outcome → ℕ
-number_in (Accepted count comparisons) = 0
-number_in (Refused reason position) = number_of reason
+-- The number of an outcome: 0 where it accepts, else the reason's.
+abbrev pub number_in : Result Accepted Refusal → ℕ
+number_in (Ok accepted) = 0
+number_in (Err refusal) = number_of refusal.reason
 
--- The count of an accepted outcome, else the position.
-abbrev pub value_in : Outcome → ℕ
-value_in (Accepted count comparisons) = count
-value_in (Refused reason position) = position
+-- Its value: the count where it accepts, else the position.
+abbrev pub value_in : Result Accepted Refusal → ℕ
+value_in (Ok accepted) = accepted.count
+value_in (Err refusal) = refusal.position
 
--- The comparisons of an accepted outcome, else 0.
-abbrev pub comparisons_in : Outcome → ℕ
-comparisons_in (Accepted count comparisons) = comparisons
-comparisons_in (Refused reason position) = 0
+-- Its comparisons: those counted where it accepts, else 0.
+abbrev pub comparisons_in : Result Accepted Refusal → ℕ
+comparisons_in (Ok accepted) = accepted.comparisons
+comparisons_in (Err refusal) = 0
 
 -- The number of an answer.
 abbrev pub number : Answer → ℕ
@@ -70,27 +74,31 @@ abbrev pub answer_with : ℕ → ℕ → ℕ → Answer
 answer_with zero v q = accepted_after v q
 answer_with (suc k) v q = refused_for (reason_in reasons (suc k)) v
 
-outcome_told : (o : Outcome) → answer_with (number_in o) (value_in o) (comparisons_in o) ≡ record { outcome = o }
-outcome_told (Accepted count comparisons) = refl
-outcome_told (Refused EmptyText p) = refl
-outcome_told (Refused TextTooLong p) = refl
-outcome_told (Refused UnknownOrder p) = refl
-outcome_told (Refused ShortOutput p) = refl
-outcome_told (Refused ShortWork p) = refl
-outcome_told (Refused ZeroEntry p) = refl
-outcome_told (Refused LongEntry p) = refl
-outcome_told (Refused CrossingSpans p) = refl
-outcome_told (Refused NoHeader p) = refl
-outcome_told (Refused BadName p) = refl
-outcome_told (Refused UnfitByte p) = refl
-outcome_told (Refused SecondRecord p) = refl
-outcome_told (Refused NoLetters p) = refl
-outcome_told (Refused TooManyLetters p) = refl
-outcome_told (Refused FileTooLong p) = refl
-outcome_told (Refused WrongTable p) = refl
-outcome_told (Refused NotLyndon p) = refl
-outcome_told (Refused UnknownTable p) = refl
-outcome_told (Refused UnwrittenTable p) = refl
+-- The refusal with this reason's number and position is the one with this reason.
+refusal_told : (reason : Reason) (p : ℕ) → answer_with (number_of reason) p 0 ≡ refused_for reason p
+refusal_told EmptyText p = refl
+refusal_told TextTooLong p = refl
+refusal_told UnknownOrder p = refl
+refusal_told ShortOutput p = refl
+refusal_told ShortWork p = refl
+refusal_told ZeroEntry p = refl
+refusal_told LongEntry p = refl
+refusal_told CrossingSpans p = refl
+refusal_told NoHeader p = refl
+refusal_told BadName p = refl
+refusal_told UnfitByte p = refl
+refusal_told SecondRecord p = refl
+refusal_told NoLetters p = refl
+refusal_told TooManyLetters p = refl
+refusal_told FileTooLong p = refl
+refusal_told WrongTable p = refl
+refusal_told NotLyndon p = refl
+refusal_told UnknownTable p = refl
+refusal_told UnwrittenTable p = refl
+
+outcome_told : (o : Result Accepted Refusal) → answer_with (number_in o) (value_in o) (comparisons_in o) ≡ record { outcome = o }
+outcome_told (Ok accepted) = refl
+outcome_told (Err refusal) = refusal_told refusal.reason refusal.position
 
 -- Number, value and comparisons tell the whole answer: two answers that have all three in common are equal.
 pub answer_told : (a b : Answer) → number a ≡ number b → value a ≡ value b → comparisons a ≡ comparisons b → a ≡ b
@@ -98,8 +106,8 @@ answer_told a b p q r =
     sym (outcome_told a.outcome) ∙ ap₂ (λ (n v : ℕ). answer_with n v (comparisons a)) p q ∙ ap (answer_with (number b) (value b)) r ∙
     outcome_told b.outcome
 
--- No outcome is both accepted and refused.
-pub accepted_apart : {count comparisons position : ℕ} {reason : Reason} → ¬ (Accepted count comparisons ≡ Refused reason position)
+-- No answer is both accepted and refused.
+pub accepted_apart : {count comparisons : ℕ} {refusal : Refusal} → ¬ (accepted_after count comparisons ≡ refused_by refusal)
 accepted_apart e =
-    let z : ◌≡◌ {A = ℕ} 0 1 = cc in
-    omega arith
+    let z : ◌≡◌ {A = Bool} true false = ap (λ (a : Answer). is_ok a.outcome) e in
+    cc

@@ -7,11 +7,13 @@ use native.Mathlib.Decide.{dec_lt}
 use native.Mathlib.Omega.{arith}
 use lib.ListN.{length, get_or}
 use borrow.Author.Tests.{lt-ltb, le-ltb}
+use Rattle.words.specs.Laws.Position.{SpanLyndon}
 use Rattle.words.specs.Laws.SpanLyndon.{letters}
 use Rattle.words.specs.Letters.{order_of}
 use Rattle.answer.specs.Limits.{max_length}
 use Rattle.answer.specs.Content.{Kept}
-use Rattle.array.specs.Core.Join.{Outside, Agreeing}
+use Rattle.array.specs.declared.factor.Factor.{Factor}
+use Rattle.array.specs.Core.Join.{Outside, Agreeing, CompareReady}
 use Rattle.array.specs.Core.Joining.{Joining}
 use Rattle.array.specs.Core.Place.{remembered_at}
 use Rattle.array.specs.Core.Rows.{entry_of, RowsOf}
@@ -44,15 +46,9 @@ known_remembered order x buf j l r = go (dec_lt 1 (entry_of order x j))
         simp (le-ltb _ _ e)
         (known_letter l (omega (arith, (entry_next order x j l).after)))
 
--- The factor at j lies inside the buffer.
-pub factor_fits : {order : ℕ} {x before buf : List ℕ} {i j k g l : ℕ} → JoinLoop order x before buf i j k g → j < length x → length x ≤ length before →
-    l ≡ get_or buf j 0 → j + l ≤ length buf
-factor_fits {order} {x} {buf = buf} {j = j} w inside fits el =
-    omega (arith, el ∙ entry_own order x buf j inside w.joining.rows, (entry_next order x j inside).inside, w.changed.size)
-
 -- What is known where the word from i to j is compared with the factor at j: l is the factor's length, s the number remembered of it.
-pub record Comparing (order : ℕ) (x before buf : List ℕ) (i j k₀ g₀ l s : ℕ) : Type 0 where
-  pub loop : JoinLoop order x before buf i j k₀ g₀
+pub record Comparing (order : ℕ) (x buf : List ℕ) (i j l s : ℕ) : Type 0 where
+  pub lyndon : SpanLyndon (order_of order) (letters 0 x) i j
   pub inside : j < length x
   pub fits : length x ≤ length buf
   pub small : length x ≤ max_length
@@ -63,20 +59,20 @@ pub record Comparing (order : ℕ) (x before buf : List ℕ) (i j k₀ g₀ l s 
   pub known : Known (letters 0 x) (length x) (entry_of order x) (letters 0 buf) j s
   pub short : s < l
 
--- It follows from the state of the loop and from what was read.
-pub comparing : {order : ℕ} {x before buf : List ℕ} {i j k₀ g₀ l s : ℕ} → JoinLoop order x before buf i j k₀ g₀ → j < length x →
-    length x ≤ length before → length x ≤ max_length → l ≡ get_or buf j 0 → s ≡ remembered_at buf j l → Comparing order x before buf i j k₀ g₀ l s
-comparing {order} {x} {buf = buf} {j = j} {l = l} {s} w inside fits small el es =
-    let e : l ≡ entry_of order x j = el ∙ entry_own order x buf j inside w.joining.rows in
-    let nj = entry_next order x j inside in
-    let known : Known (letters 0 x) (length x) (entry_of order x) (letters 0 buf) j s =
-    subst (λ (t : ℕ). Known (letters 0 x) (length x) (entry_of order x) (letters 0 buf) j t) (sym (es ∙ ap (remembered_at buf j) e))
-    (known_remembered order x buf j inside w.joining.rows) in
+-- It follows from what is asked for.
+pub comparing : {order : ℕ} {x buf : List ℕ} {i k : ℕ} {f : Factor} → CompareReady order x buf i f k → Comparing order x buf i f.start f.length f.known
+comparing {order} {x} {buf} {f = f} w =
+    let e : f.length ≡ entry_of order x f.start = ap (λ (h : Factor). h.length) w.is_factor ∙ entry_own order x buf f.start w.inside w.joining.rows in
+    let nj = entry_next order x f.start w.inside in
+    let known : Known (letters 0 x) (length x) (entry_of order x) (letters 0 buf) f.start f.known =
+    subst (λ (t : ℕ). Known (letters 0 x) (length x) (entry_of order x) (letters 0 buf) f.start t)
+    (sym (ap (λ (h : Factor). h.known) w.is_factor ∙ ap (remembered_at buf f.start) (entry_own order x buf f.start w.inside w.joining.rows)))
+    (known_remembered order x buf f.start w.inside w.joining.rows) in
     record {
-      loop = w;
-      inside = inside;
-      fits = omega (arith, w.changed.size);
-      small = small;
+      lyndon = w.joining.lyndon;
+      inside = w.inside;
+      fits = w.fits;
+      small = w.small;
       after = w.joining.lyndon.non_empty;
       is_length = e;
       positive = omega (arith, nj.after);
@@ -86,5 +82,5 @@ comparing {order} {x} {buf = buf} {j = j} {l = l} {s} w inside fits small el es 
     }
 
 -- The letters that agree where the comparison begins.
-pub agreeing_start : {order : ℕ} {x before buf : List ℕ} {i j k₀ g₀ l s : ℕ} → Comparing order x before buf i j k₀ g₀ l s → Agreeing x i j k₀
-agreeing_start w = record { agree = w.loop.joining.agree w.inside; within = w.loop.joining.within w.inside }
+pub agreeing_start : {order : ℕ} {x buf : List ℕ} {i k : ℕ} {f : Factor} → CompareReady order x buf i f k → Agreeing x i f.start k
+agreeing_start w = record { agree = w.joining.agree w.inside; within = w.joining.within w.inside }

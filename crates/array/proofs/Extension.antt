@@ -1,6 +1,6 @@
 -- How far the suffixes at i and at the end of its word agree.
 -- Assumes nothing.
-use mathlib.Core.Path.{◌≡◌, refl, subst, sym, ap, ◌∙◌}
+use mathlib.Core.Path.{◌≡◌, subst, sym, ap, ◌∙◌}
 use mathlib.Core.List.{List}
 use Prim.Native.Nat.{ℕ, ◌+◌, ◌<◌, ◌≤◌, ◌-◌}
 use native.Mathlib.Decide.{dec_lt}
@@ -8,31 +8,15 @@ use native.Mathlib.Omega.{arith}
 use lib.ListN.{length, get_or, drop, length-drop}
 use lib.Seq.{get_or-drop}
 use Rattle.words.specs.Laws.SpanLyndon.{letters}
-use Rattle.letters.specs.declared.Comparison.{Comparison}
-use Rattle.letters.specs.declared.Comparison.TheVariants.{Below, Same, Above}
+use Rattle.std.specs.declared.cmp.Ordering.{Ordering}
+use Rattle.std.specs.declared.cmp.Ordering.TheVariants.{Greater}
 use Rattle.agreement.specs.CommonPrefix.{common_prefix}
 use Rattle.array.specs.Core.RunExtent.{StoppedAt, Exact, ExtendedTo}
 use Rattle.agreement.specs.CommonPrefixLaws.{Agreement, common_prefix_agreement}
 
 module _ (x buf : List ℕ) (i j k : ℕ) where
-  -- At the end of the text nothing agrees.
-  pub extended_end : (stop : Comparison) → StoppedAt x buf i j k stop → length x ≤ j → ExtendedTo x i j 0 stop
-  extended_end Below w h = tt
-  extended_end Same w h = absurd (omega (arith, w.stopped.0))
-  extended_end Above w h =
-      record { agree = λ t q. absurd (omega arith); within = omega (arith, w.inside); stops = λ q. absurd (omega arith) }
-
-  -- The comparison has stopped at a letter.
-  letter_exact : StoppedAt x buf i j k Above → j < length x → k < get_or buf j 0 → Exact x i j k
-  letter_exact w l h =
-      record {
-        agree = (w.agreeing l).agree;
-        within = (w.agreeing l).within;
-        stops = λ q. (w.stopped l).1 (omega (arith, w.own l));
-      }
-
   -- The comparison has stopped at the end of the factor, and the letters behind it are measured.
-  further_exact : StoppedAt x buf i j k Above → j < length x → (r : ℕ) → r ≡ common_prefix (drop (i + k) x) (drop (j + k) x) →
+  further_exact : StoppedAt x buf i j k Greater → j < length x → (r : ℕ) → r ≡ common_prefix (drop (i + k) x) (drop (j + k) x) →
       Exact x i j (k + r)
   further_exact w l r e =
       record {
@@ -64,25 +48,14 @@ module _ (x buf : List ℕ) (i j k : ℕ) where
           sym (ap (letters 0 x) u) ∙ sym (get_or-drop (i + k) x (t - k) 0) ∙ f.alike (t - k) (omega (arith, h)) ∙
           get_or-drop (j + k) x (t - k) 0 ∙ ap (letters 0 x) v
 
-  pub extended_letter : (stop : Comparison) → stop ≡ Above → StoppedAt x buf i j k stop → j < length x → (m : ℕ) → m ≡ get_or buf j 0 → k < m →
-      ExtendedTo x i j k stop
-  extended_letter stop e w l m q h =
-      subst (ExtendedTo x i j k) (sym e) (letter_exact (subst (StoppedAt x buf i j k) e w) l (omega arith))
+  -- Behind the factor, which agrees with the word as far as it goes, r more letters agree.
+  module _ {n : ℕ} (stop : Ordering) (w : StoppedAt x buf i j k stop) (size : n ≡ length x) (l : j < n) (r : ℕ)
+      (h : r ≡ common_prefix (drop (i + k) x) (drop (j + k) x)) where
+    pub further_fits : k + r ≤ length x
+    further_fits =
+        let q : j < length x = omega arith in
+        omega
+        (arith, h, (common_prefix_agreement (drop (i + k) x) (drop (j + k) x)).in_right, length-drop (j + k) x, (w.agreeing q).within)
 
-  pub extended_further : (stop : Comparison) → stop ≡ Above → StoppedAt x buf i j k stop → j < length x → (r : ℕ) →
-      r ≡ common_prefix (drop (i + k) x) (drop (j + k) x) → ExtendedTo x i j (k + r) stop
-  extended_further stop e w l r h =
-      subst (ExtendedTo x i j (k + r)) (sym e) (further_exact (subst (StoppedAt x buf i j k) e w) l r h)
-
-  pub further_fits : (stop : Comparison) → StoppedAt x buf i j k stop → j < length x → (r : ℕ) →
-      r ≡ common_prefix (drop (i + k) x) (drop (j + k) x) → k + r ≤ length x
-  further_fits stop w l r h =
-      omega
-      (arith, h, (common_prefix_agreement (drop (i + k) x) (drop (j + k) x)).in_right, length-drop (j + k) x, (w.agreeing l).within)
-
-  -- The comparison did not say above.
-  pub extended_stopped : (stop : Comparison) → ¬ (stop ≡ Above) → StoppedAt x buf i j k stop → j < length x →
-      ExtendedTo x i j k stop
-  extended_stopped Below other w l = tt
-  extended_stopped Same other w l = w.agreeing l
-  extended_stopped Above other w l = absurd (other refl)
+    pub extended_further : stop ≡ Greater → ExtendedTo x i j (k + r) stop
+    extended_further e = subst (ExtendedTo x i j (k + r)) (sym e) (further_exact (subst (StoppedAt x buf i j k) e w) (omega arith) r h)

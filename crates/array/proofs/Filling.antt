@@ -44,9 +44,9 @@ stored_small order x before buf i s r w h l = go w.joining.joined
         )
 
 -- What joining at the position before i asks for.
-pub filled_ready : (order : ℕ) (x before buf : List ℕ) (i : ℕ) → Filled order x before buf i → length x ≤ length before → length x ≤ max_length → 0 < i →
-    i ≤ length x → JoinReady order x buf (i - 1)
-filled_ready order x before buf i f fits small p q =
+pub filled_ready : (order : ℕ) (x before buf : List ℕ) (i n : ℕ) → Filled order x before buf i → length x ≤ length before → length x ≤ max_length → 0 < i →
+    i ≤ n → n ≡ length x → JoinReady order x buf (i - 1)
+filled_ready order x before buf i n f fits small p q size =
     let e : i ≡ i - 1 + 1 = omega arith in
     record {
       inside = omega arith;

@@ -15,22 +15,7 @@ use Rattle.array.proofs.Known.{Known}
 use Rattle.array.proofs.LastPlace.{restored_factor}
 use Rattle.array.proofs.RowLaws.{Front, rows_same, front}
 
--- A single letter, before anything is joined to it.
-pub joining_start {ℓ κ} : {A : Type ℓ} {O : Letters {ℓ, κ} A} {x : ℕ → A} {n : ℕ} {lam buf : ℕ → ℕ} {i : ℕ} → i < n → Rows x n lam buf (suc i) →
-    Joining O x n lam buf i (suc i) 0 0
-joining_start l r =
-    record {
-      lyndon = record { non_empty = omega arith; below = λ k p q. absurd (omega arith) };
-      inside = l;
-      covered = λ t p q. absurd (omega arith);
-      inner = λ t p q. absurd (omega arith);
-      rows = r;
-      agree = λ m k h. absurd (omega arith);
-      within = λ m. omega arith;
-      joined = inl refl;
-    }
-
--- The same, once more letters are known to agree.
+-- A joined word, once more letters are known to agree.
 pub joining_agreed {ℓ κ} : {A : Type ℓ} {O : Letters {ℓ, κ} A} {x : ℕ → A} {n : ℕ} {lam buf : ℕ → ℕ} {i j k₀ k g : ℕ} → Joining O x n lam buf i j k₀ g →
     (j < n → Agree x i j k) → (j < n → j + k ≤ n) → Joining O x n lam buf i j k g
 joining_agreed w a b =

@@ -9,14 +9,12 @@ pub mod Entries
 pub mod RestoredPlace
 pub mod Comparing
 pub mod ComparisonEnds
-pub mod RankedLetters
 pub mod JoinSteps
 pub mod Filling
 pub mod Restoring
 pub mod ArrayWritten
 pub mod Extension
 pub mod LeftExtension
-pub mod RankedLeft
 pub mod RunEntry
 pub mod Visiting
 pub mod RunList

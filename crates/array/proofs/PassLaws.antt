@@ -101,19 +101,14 @@ passing_room order x before buf list list' from i count p h fits = record { room
         omega (arith, more, p.counted, length-append p.entries (e ∷ []), written_size p.content)
 
 -- What visiting the position before i asks for.
-pub passing_ready : (order : ℕ) (x before buf list list' : List ℕ) (from i count : ℕ) → Passing order x before buf list list' from i count →
-    length x ≤ length before → length x ≤ max_length → 0 < i → i ≤ length x → RoomFrom order x list from →
+pub passing_ready : (order : ℕ) (x before buf list list' : List ℕ) (from i count n : ℕ) → Passing order x before buf list list' from i count →
+    length x ≤ length before → length x ≤ max_length → 0 < i → i ≤ n → n ≡ length x → RoomFrom order x list from →
     VisitReady order x buf list' count (i - 1)
-passing_ready order x before buf list list' from i count p fits small h q room =
+passing_ready order x before buf list list' from i count n p fits small h q size room =
     record {
-      join = filled_ready 0 x before buf i p.filled fits small h q;
+      join = filled_ready 0 x before buf i n p.filled fits small h q size;
       fits = passing_room order x before buf list list' from i count p h room;
     }
-
--- The list keeps its length.
-pub passing_length : (order : ℕ) (x before buf list list' : List ℕ) (from i count : ℕ) → Passing order x before buf list list' from i count →
-    length list' ≡ length list
-passing_length order x before buf list list' from i count p = written_size p.content
 
 -- What the first pass asks for.
 pub first_ready : (x work list : List ℕ) → FindReady x work list → PassReady 0 x work list 0

@@ -10,9 +10,10 @@ use Rattle.words.specs.Laws.SpanLyndon.{letters}
 use Rattle.words.specs.Laws.SuffixOrder.{NextSmaller}
 use Rattle.words.specs.Letters.{Letters}
 use Rattle.answer.specs.Content.{Kept, From}
-use Rattle.answer.specs.ContentLaws.{kept_all, kept_then, kept_where}
-use Rattle.array.specs.Core.Fill.{HasRows, AllRestored}
-use Rattle.array.specs.Core.Place.{restored_at}
+use Rattle.answer.specs.ContentLaws.{kept_then, kept_where}
+use Rattle.array.specs.declared.factor.Factor.{Factor}
+use Rattle.array.specs.Core.Fill.{HasRows}
+use Rattle.array.specs.Core.Place.{factor_at, restored_at}
 use Rattle.array.specs.Core.Rows.{Rows, entry_of, RowsOf}
 use Rattle.array.proofs.Entries.{entry_next, entry_own}
 use Rattle.array.proofs.LastPlace.{restored_factor}
@@ -24,10 +25,6 @@ pub record Restoring {ℓ} {A : Type ℓ} (x : ℕ → A) (n : ℕ) (lam buf : �
   pub inside : j ≤ n
   pub final : (t : ℕ) → t < j → buf t ≡ lam t
   pub rows : Rows x n lam buf j
-
--- Nothing is final yet.
-pub restoring_start {ℓ} : {A : Type ℓ} {x : ℕ → A} {n : ℕ} {lam buf : ℕ → ℕ} → Rows x n lam buf 0 → Restoring x n lam buf 0
-restoring_start r = record { inside = omega arith; final = λ t p. absurd (omega arith); rows = r }
 
 module _ {ℓ κ} {A : Type ℓ} {O : Letters {ℓ, κ} A} {x : ℕ → A} {n : ℕ} {lam : ℕ → ℕ} (next : (t : ℕ) → t < n → NextSmaller O x n t (t + lam t))
     {buf buf' : ℕ → ℕ} where
@@ -51,14 +48,6 @@ pub record RestoredBelow (before after : List ℕ) (n j : ℕ) : Type 0 where
   pub restoring : (order : ℕ) (x : List ℕ) → length x ≡ n → RowsOf order x before 0 →
       Restoring (letters 0 x) (length x) (entry_of order x) (letters 0 after) j
 
--- Nothing is restored yet.
-pub restored_start : (buf : List ℕ) (n : ℕ) → RestoredBelow buf buf n 0
-restored_start buf n =
-    record {
-      others = kept_all buf;
-      restoring = λ order x e r. restoring_start r;
-    }
-
 -- The factor at j, of length l.
 pub record FactorAt (buf : List ℕ) (n j l : ℕ) : Type 0 where
   pub positive : 0 < l
@@ -66,8 +55,8 @@ pub record FactorAt (buf : List ℕ) (n j l : ℕ) : Type 0 where
   pub inside : n ≤ length buf
 
 -- It is one of the rows that are left.
-pub factor_at : (before buf : List ℕ) (n j l : ℕ) → HasRows before n → RestoredBelow before buf n j → j < n → l ≡ get_or buf j 0 → FactorAt buf n j l
-factor_at before buf n j l h w q e =
+pub row_at : (before buf : List ℕ) (n j l : ℕ) → HasRows before n → RestoredBelow before buf n j → j < n → l ≡ get_or buf j 0 → FactorAt buf n j l
+row_at before buf n j l h w q e =
     let r = w.restoring h.order h.text h.size h.rows in
     let m : j < length h.text = omega (arith, h.size) in
     let o : l ≡ entry_of h.order h.text j = e ∙ entry_own h.order h.text buf j m r.rows in
@@ -79,16 +68,22 @@ factor_at before buf n j l h w q e =
     }
 
 -- The factor at j has its last entry back.
-pub restored_step : (before buf after : List ℕ) (n j l : ℕ) → HasRows before n → RestoredBelow before buf n j → j < n → l ≡ get_or buf j 0 →
-    after ≡ restored_at buf j l → RestoredBelow before after n (j + l)
-restored_step before buf after n j l h w q e changed =
-    let f = factor_at before buf n j l h w q e in
-    rw changed
+pub restored_step : (before buf after : List ℕ) (n j : ℕ) (factor : Factor) → HasRows before n → RestoredBelow before buf n j → j < n →
+    factor ≡ factor_at buf j → after ≡ restored_at buf factor.start factor.length → RestoredBelow before after n (j + factor.length)
+restored_step before buf after n j factor h w q is_factor changed =
+    let f = row_at before buf n j l h w q e in
+    rw (changed, ap (λ (a : Factor). a.start) is_factor)
     (record {
       others = kept_then w.others (kept_where (restored_others buf j l) (λ t p z. omega (arith, f.ends)));
       restoring = λ order x ex r. step f order x ex (w.restoring order x ex r);
     })
   where
+    l : ℕ
+    l = factor.length
+
+    e : l ≡ get_or buf j 0
+    e = ap (λ (a : Factor). a.length) is_factor
+
     step : FactorAt buf n j l → (order : ℕ) (x : List ℕ) → length x ≡ n → Restoring (letters 0 x) (length x) (entry_of order x) (letters 0 buf) j →
         Restoring (letters 0 x) (length x) (entry_of order x) (letters 0 (restored_at buf j l)) (j + l)
     step f order x ex r =
@@ -102,8 +97,3 @@ restored_step before buf after n j l h w q e changed =
         (λ g.
         let y : t ≡ j = omega (arith, f.positive) in
         ap (λ (u : ℕ). get_or buf u 0) y ∙ sym e ∙ omega (arith, f.positive)) (omega arith)))
-
--- Every factor has.
-pub all_restored : (before buf : List ℕ) (n j : ℕ) → RestoredBelow before buf n j → n ≤ j → AllRestored before buf n
-all_restored before buf n j w h =
-    record { others = w.others; final = λ order x e r t p. (w.restoring order x e r).final t (omega arith) }

@@ -1,13 +1,17 @@
 -- The run whose last root starts at a position, or that there is none.
 -- Assumes nothing.
 use mathlib.Core.Path.{◌≡◌, refl, subst, sym, ap, ◌∙◌}
+use mathlib.Core.Bool.{Bool, true, false}
 use mathlib.Core.List.{List, [], ◌∷◌}
 use Prim.Native.Nat.{ℕ, ◌+◌, ◌*◌, ◌<◌, ◌≤◌, ◌-◌}
 use native.Mathlib.Omega.{arith}
 use lib.ListN.{length}
+use Rattle.std.specs.Prelude.{ltb}
+use Rattle.std.proofs.Common.{ltb-false}
+use borrow.Author.Tests.{ltb-true}
 use Rattle.words.specs.Laws.Position.{Agree}
 use Rattle.words.specs.Laws.RunExtent.{Extent, extent_from}
-use Rattle.words.specs.Laws.RunMarks.{ListedEntry, end_bound, end_below, entry_listed, unlisted, run_entry}
+use Rattle.words.specs.Laws.RunMarks.{ListedEntry, end_bound, entry_listed, unlisted, run_entry}
 use Rattle.words.specs.Laws.SpanLyndon.{letters}
 use Rattle.words.specs.Laws.SuffixOrder.{NextSmaller}
 use Rattle.words.specs.Letters.{rising}
@@ -41,16 +45,12 @@ module _ (order : ℕ) (x list : List ℕ) (i j k s count : ℕ) (w : AtRoot x i
   pub too_short : i - s + k < j - i → Listed order x list list i count count
   too_short h = nothing (λ z. omega (arith, z.0, goes_on, left.low))
 
-  -- In falling order a run at the end of the text is left to the rising pass.
-  pub at_text_end : ¬ (order ≡ 0) → j + k ≡ length x → Listed order x list list i count count
-  at_text_end h e =
-      nothing
-      (λ z.
-      let q : j + k < length x = (end_below order (length x) (j + k) (omega arith)).0 z.2 (omega (arith, h)) in
-      omega arith)
+  -- It ends where this pass lists no run.
+  pub not_here : {r : Bool} → r ≡ ltb (j + k) (end_bound order (length x)) → r ≡ false → Listed order x list list i count count
+  not_here e f = nothing (λ z. omega (arith, z.2, ltb-false (j + k) (end_bound order (length x)) (sym e ∙ f)))
 
   -- Else i lists the run.
-  module _ (long : j - i ≤ i - s + k) (early : 0 < order → j + k < length x) where
+  module _ {r : Bool} (long : j - i ≤ i - s + k) (e : r ≡ ltb (j + k) (end_bound order (length x))) (t : r ≡ true) where
     lists_run : ListedEntry rising (letters 0 x) (length x) (end_bound order (length x)) i (run_entry s (j + k) (j - i))
     lists_run =
         entry_listed rising (letters 0 x) (length x) (end_bound order (length x)) i s (j + k) (j - i)
@@ -59,7 +59,7 @@ module _ (order : ℕ) (x list : List ℕ) (i j k s count : ℕ) (w : AtRoot x i
           extent = root_extent;
           twice = omega (arith, goes_on, left.low);
           last = omega (arith, goes_on, w.short);
-          early = (end_below order (length x) (j + k) w.exact.within).1 early;
+          early = ltb-true (j + k) (end_bound order (length x)) (sym e ∙ t);
         })
 
     -- There is room for it,
@@ -67,6 +67,6 @@ module _ (order : ℕ) (x list : List ℕ) (i j k s count : ℕ) (w : AtRoot x i
     run_fits at = at.room (run_entry s (j + k) (j - i)) lists_run
 
     -- and written, it is listed.
-    pub run_found : (after : List ℕ) → Written list after (3 * count) (3 * (count + 1)) (s ∷ (j + k - 1) ∷ (j - i) ∷ []) →
-        Listed order x list after i count (count + 1)
-    run_found after e = listed (run_entry s (j + k) (j - i)) lists_run refl e
+    pub run_found : {after : List ℕ} {m : ℕ} → m ≡ count + 1 → Written list after (3 * count) (3 * m) (s ∷ (j + k - 1) ∷ (j - i) ∷ []) →
+        Listed order x list after i count m
+    run_found m e = listed (run_entry s (j + k) (j - i)) lists_run m e

@@ -12,8 +12,8 @@ use Rattle.words.specs.Laws.RunMarks.{end_bound}
 use Rattle.words.specs.Laws.SpanLyndon.{letters}
 use Rattle.words.specs.Laws.SuffixOrder.{NextSmaller, agree_less}
 use Rattle.words.specs.Letters.{rising}
-use Rattle.letters.specs.declared.Comparison.{Comparison}
-use Rattle.letters.specs.declared.Comparison.TheVariants.{Below, Same, Above}
+use Rattle.std.specs.declared.cmp.Ordering.{Ordering}
+use Rattle.std.specs.declared.cmp.Ordering.TheVariants.{Less, Equal, Greater}
 use Rattle.answer.specs.ContentLaws.{kept_all}
 use Rattle.array.specs.declared.joined.Joined.{Joined}
 use Rattle.array.specs.Core.Fill.{Filled}
@@ -47,13 +47,13 @@ module _ (x before buf : List ℕ) (i : ℕ) (r : Joined) (w : JoinedTo 0 x befo
   extended_joining k e =
       joining_agreed w.joining (λ l. (agreeing r.stop w.stopped e).agree) (λ l. (agreeing r.stop w.stopped e).within)
     where
-      agreeing : (c : Comparison) → Stopped 0 x i r.end r.agreed c → ExtendedTo x i r.end k c → Agreeing x i r.end k
-      agreeing Below q h = absurd q
-      agreeing Same q h = h
-      agreeing Above q h = record { agree = h.agree; within = h.within }
+      agreeing : (c : Ordering) → Stopped 0 x i r.end r.agreed c → ExtendedTo x i r.end k c → Agreeing x i r.end k
+      agreeing Less q h = absurd q
+      agreeing Equal q h = h
+      agreeing Greater q h = record { agree = h.agree; within = h.within }
 
   -- Where the comparison said above, the agreement is shorter than the word.
-  pub at_root : (k : ℕ) → ExtendedTo x i r.end k r.stop → r.stop ≡ Above → AtRoot x i r.end k
+  pub at_root : (k : ℕ) → ExtendedTo x i r.end k r.stop → r.stop ≡ Greater → AtRoot x i r.end k
   at_root k h e = record { next = w.next; exact = exact; short = go (dec_lt r.end (length x)) }
     where
       j : ℕ
@@ -66,7 +66,7 @@ module _ (x before buf : List ℕ) (i : ℕ) (r : Joined) (w : JoinedTo 0 x befo
       v = entry_of 0 x r.end
 
       not_same : j < length x → ¬ SameWord x i j v
-      not_same l = (subst (λ (c : Comparison). Stopped 0 x i j r.agreed c) e w.stopped l).0
+      not_same l = (subst (λ (c : Ordering). Stopped 0 x i j r.agreed c) e w.stopped l).0
 
       on : i + (j - i) ≡ j
       on = omega (arith, w.joining.lyndon.non_empty)
@@ -93,10 +93,10 @@ module _ (x before buf : List ℕ) (i : ℕ) (r : Joined) (w : JoinedTo 0 x befo
       go (no l) = omega (arith, l, exact.within, w.joining.lyndon.non_empty, w.joining.inside)
 
   -- Where it said same, the run is listed at a later root.
-  same_not_listed : (order : ℕ) (list : List ℕ) (count : ℕ) → r.stop ≡ Same → Listed order x list list i count count
+  same_not_listed : (order : ℕ) (list : List ℕ) (count : ℕ) → r.stop ≡ Equal → Listed order x list list i count count
   same_not_listed order list count e =
       let q : (r.end < length x) × SameWord x i r.end (entry_of 0 x r.end) =
-      subst (λ (c : Comparison). Stopped 0 x i r.end r.agreed c) e w.stopped in
+      subst (λ (c : Ordering). Stopped 0 x i r.end r.agreed c) e w.stopped in
       let p : ℕ = entry_of 0 x r.end in
       let nj = entry_next 0 x r.end q.0 in
       skipped refl refl
@@ -107,13 +107,13 @@ module _ (x before buf : List ℕ) (i : ℕ) (r : Joined) (w : JoinedTo 0 x befo
       (end_bound order (length x)) t.start (suc t.last) t.period)
 
   -- Where the comparison did not say above, nothing is listed: it never said below.
-  pub not_listed : (order : ℕ) (list : List ℕ) (count : ℕ) → ¬ (r.stop ≡ Above) → Listed order x list list i count count
+  pub not_listed : (order : ℕ) (list : List ℕ) (count : ℕ) → ¬ (r.stop ≡ Greater) → Listed order x list list i count count
   not_listed order list count other = go r.stop refl other
     where
-      go : (c : Comparison) → r.stop ≡ c → ¬ (c ≡ Above) → Listed order x list list i count count
-      go Below e t = absurd (subst (λ (c : Comparison). Stopped 0 x i r.end r.agreed c) e w.stopped)
-      go Same e t = same_not_listed order list count e
-      go Above e t = absurd (t refl)
+      go : (c : Ordering) → r.stop ≡ c → ¬ (c ≡ Greater) → Listed order x list list i count count
+      go Less e t = absurd (subst (λ (c : Ordering). Stopped 0 x i r.end r.agreed c) e w.stopped)
+      go Equal e t = same_not_listed order list count e
+      go Greater e t = absurd (t refl)
 
 -- A visited position: its row is stored, and its run is listed.
 pub visited : (order : ℕ) (x before buf after list list' : List ℕ) (i k count m : ℕ) (r : Joined) → RowsOf 0 x before (i + 1) →

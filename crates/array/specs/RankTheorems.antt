@@ -8,8 +8,8 @@ use Rattle.words.specs.Decided.{decided_order}
 use Rattle.words.specs.LyndonArray.{IsLyndonArray}
 use Rattle.words.specs.Runs.{IsRunList, numbers}
 use Rattle.words.specs.Compute.LyndonArray.{array_of, array_of_holds}
-use Rattle.answer.specs.declared.Answer.{Answer}
 use Rattle.answer.specs.declared.Reason.TheVariants.{ShortOutput}
+use Rattle.answer.specs.declared.Answer.{Answer}
 use Rattle.answer.specs.Answers.{accepted_with, refused_for}
 use Rattle.answer.specs.Limits.{Sized, ranked_order, table_length, run_list_length, work_length}
 use Rattle.answer.specs.AfterCall.{content_after}

@@ -1,12 +1,105 @@
-// What a join loop hands back.
-use letters::Comparison;
+// The join loop of document 002 (LONGESTLYNDON), and the array that it makes.
+ghost use Rattle.std.specs.Prelude.{◌≡◌, min};
+ghost use Rattle.answer.specs.AfterCall.{written};
+ghost use Rattle.answer.specs.Content.{TextRoom};
+ghost use Rattle.array.specs.Core.Join.{JoinReady, JoinedTo};
+ghost use Rattle.array.specs.Core.Place.{StoreReady, stored_at};
+ghost use Rattle.words.specs.Compute.LyndonArray.{array_of};
+ghost use Rattle.words.specs.Decided.{decided_order};
+
+use crate::factor;
+use crate::factor::Factor;
+use crate::text::Text;
+use std::cmp::Ordering;
 
 // The word from a position was joined up to `end`: it agrees with what follows on `agreed` letters and with its last part on `part`;
-// `stop` is the comparison that ended the joining, `Above` at the end of the text.
+// `stop` is the comparison that ended the joining, `Greater` at the end of the text.
 #[derive(Clone, Copy)]
 pub struct Joined {
     pub end: usize,
     pub agreed: usize,
     pub part: usize,
-    pub stop: Comparison,
+    pub stop: Ordering,
+}
+
+impl Joined {
+    // Stores the length of the word from i, and at its last place how far it agrees with what follows and with its last part.
+    pub(crate) fn store(self, buf: &mut [u32], i: usize)
+        requires { StoreReady buf.old i self.end (min self.agreed self.part) }
+        ensures content { buf.new ≡ stored_at buf.old i self.end (min self.agreed self.part) }
+    {
+        let length = self.end - i;
+        buf[i] = length as u32;
+        if 1 < length {
+            buf[self.end - 1] = self.agreed.min(self.part) as u32;
+        }
+    }
+}
+
+// Joins to the letter at i the factors after it, as long as the word so far is smaller than the next factor.
+pub(crate) fn join<T: Text>(text: T, buf: &mut [u32], i: usize) -> Joined
+    requires { JoinReady (T.order text) (T.values text) buf.old i }
+    ensures content { JoinedTo (T.order text) (T.values text) buf.old buf.new i result }
+{
+    let mut end = i + 1;
+    let mut agreed: usize = 0;
+    let mut part: usize = 0;
+    // A while loop: the step is the length of the factor joined, not 1.
+    while end < text.len() {
+        let factor = Factor::at(buf, end);
+        let word = factor.start - i;
+        // Compares the word so far with the next factor, from the letters that are known to agree: document 01 names this form. Where the word
+        // ends first, less is settled, and the loop goes on only to measure how far they agree.
+        let stop = loop {
+            if factor.length <= agreed {
+                if word == factor.length {
+                    break Ordering::Equal;
+                }
+                // The factor is a proper prefix of the word.
+                break Ordering::Greater;
+            }
+            if text.differ(i + agreed, factor.start + agreed) {
+                if word <= agreed {
+                    break Ordering::Less;
+                }
+                break text.compare(i + agreed, factor.start + agreed);
+            }
+            agreed += 1;
+            if agreed == word {
+                if let Some(settled) = factor.settled(buf, word) {
+                    agreed = settled;
+                    break Ordering::Less;
+                }
+            }
+        };
+        let Ordering::Less = stop else {
+            return Joined {
+                end,
+                agreed,
+                part,
+                stop,
+            };
+        };
+        factor.restore(buf);
+        end += factor.length;
+        part = agreed;
+        agreed = agreed.min(factor.known);
+    }
+    Joined {
+        end,
+        agreed,
+        part,
+        stop: Ordering::Greater,
+    }
+}
+
+// Writes the Lyndon array of the text: joins at every position from the last to the first, and then gives the last places their entries back.
+pub(crate) fn compute<T: Text>(text: T, buf: &mut [u32])
+    requires { TextRoom (T.values text) buf.old }
+    ensures content { buf.new ≡ written (array_of (decided_order (T.order text)) (T.values text)) buf.old }
+{
+    for i in (0..text.len()).rev() {
+        join(text, buf, i).store(buf, i);
+    }
+    factor::restore_all(buf, text.len());
 }

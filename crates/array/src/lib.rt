@@ -8,7 +8,8 @@
 #![tactic(auto)]
 
 pub mod bytes;
+mod factor;
 mod joined;
 pub mod numbers;
-mod places;
 pub mod runs;
+mod text;

@@ -1,196 +1,210 @@
 // The list of all runs of a text of bytes; letters with one key count as the same.
-ghost use Rattle.std.specs.Prelude.{◌≡◌, [], ◌∷◌, ◌+◌, ◌-◌, ◌*◌, ◌≤◌, ◌<◌, length};
+ghost use Rattle.std.specs.Prelude.{◌≡◌, [], ◌∷◌, ◌+◌, ◌-◌, ◌*◌, ◌≤◌, ◌<◌, ltb, length, drop};
 ghost use Rattle.answer.specs.Limits.{max_length};
 ghost use Rattle.answer.specs.Content.{Written};
+ghost use Rattle.agreement.specs.CommonPrefix.{common_prefix};
 ghost use Rattle.array.specs.Core.RunExtent.{StoppedAt, ExtendedTo, LeftExtent, AtRoot};
-ghost use Rattle.array.specs.Core.RunPass.{Listed, RoomAt, VisitReady, Visited, PassReady, OrderDone, FindReady, RunsFound, ReadyWhere};
-ghost use Rattle.array.specs.Calls.{runs_answer, runs_ranked_answer, run_list, run_numbers, both_arrays};
+ghost use Rattle.array.specs.Core.RunPass.{Listed, RoomAt, VisitReady, Visited, PassReady, OrderDone, FindReady, RunsFound};
+ghost use Rattle.array.specs.Calls.{runs_answer, runs_ranked_answer, run_numbers, both_arrays};
 ghost use Rattle.answer.specs.AfterCall.{content_after};
-ghost use Rattle.answer.specs.Answers.{accepted_with};
-ghost use Rattle.checks.specs.Checks.{answer_to};
+ghost use Rattle.letters.specs.Compared.{order_number};
+ghost use Rattle.letters.specs.Keyed.{row};
 ghost use Rattle.letters.specs.Ranks.{rank_row};
 ghost use Rattle.letters.specs.RankLaws.{Bytes};
 ghost use Rattle.words.specs.Decided.{decided_rising};
+ghost use Rattle.words.specs.Laws.RunMarks.{end_bound};
 
-use crate::{bytes, places};
+use crate::joined::Joined;
+use crate::text::Text;
+use crate::{factor, joined};
 use answer::Answer;
-use checks::{Check, limits};
-use letters::Comparison;
+use checks::limits;
+use letters::{Keyed, Order};
+use std::cmp::Ordering;
 
-// How far the suffixes at i and end agree, where the join loop of i has stopped at end after `agreed` letters: all letters that do, unless
-// the two factors are the same; 0 at the end of the text. By ranks the letters are compared singly, else eight at a look.
-fn extended(
-    text: &[u8],
-    ranked: bool,
-    keys: &[u8; 256],
-    buf: &[u32],
-    i: usize,
-    end: usize,
-    agreed: usize,
-    stop: Comparison,
-) -> usize
-    requires { StoppedAt (rank_row keys.now text.now) buf.now i end agreed stop }
-    ensures result { ExtendedTo (rank_row keys.now text.now) i end result stop }
-{
-    if text.len() <= end {
-        return 0;
+// How it is measured how far two rests of a text agree.
+trait Measure: Copy {
+    // The letters on which the rests from i and from j on agree.
+    fn agreement(self, text: Keyed<'_>, i: usize, j: usize) -> usize
+        requires first { i ≤ length (row text) }
+        requires second { j ≤ length (row text) }
+        ensures result { result ≡ common_prefix (drop i (row text.entry)) (drop j (row text.entry)) };
+}
+
+// Eight bytes at a look.
+#[derive(Clone, Copy)]
+struct Eights;
+
+impl Measure for Eights {
+    #[tactic(auto, using(agreement::specs::CommonPrefixLaws::rests_agree))]
+    fn agreement(self, text: Keyed<'_>, i: usize, j: usize) -> usize {
+        agreement::common_prefix(text.keys, &text.text[i..], &text.text[j..])
     }
-    let Comparison::Above = stop else {
-        return agreed;
-    };
-    if agreed < letters::wide(buf[end]) {
-        return agreed;
+}
+
+// One letter after another.
+#[derive(Clone, Copy)]
+struct Singly;
+
+impl Measure for Singly {
+    #[tactic(auto, using(agreement::specs::CommonPrefixLaws::rests_agree))]
+    fn agreement(self, text: Keyed<'_>, i: usize, j: usize) -> usize {
+        agreement::common_prefix_singly(text.keys, &text.text[i..], &text.text[j..])
     }
-    let u = &text[i + agreed..];
-    let v = &text[end + agreed..];
-    if ranked {
-        return agreed + agreement::common_prefix_singly(keys, u, v);
-    }
-    agreed + agreement::common_prefix(keys, u, v)
 }
 
 // The start of the letters before i that continue period p to the left.
-fn start_of(text: &[u8], keys: &[u8; 256], i: usize, p: usize) -> usize
-    requires { i + p ≤ length text.now }
-    ensures result { LeftExtent (rank_row keys.now text.now) i p result }
+fn start_of(text: Keyed<'_>, i: usize, p: usize) -> usize
+    requires { i + p ≤ length (row text) }
+    ensures result { LeftExtent (row text.entry) i p result }
 {
-    let mut s = i;
-    while 0 < s {
-        if letters::differ(keys, text[s - 1], text[s - 1 + p]) {
-            return s;
-        }
-        s -= 1;
-    }
-    s
-}
-
-// Writes an entry of the list.
-fn write_entry(list: &mut [u32], count: usize, start: usize, last: usize, period: usize)
-    requires { (3 * count + 3 ≤ length list.old) × (start ≤ max_length) × (last ≤ max_length) × (period ≤ max_length) }
-    ensures content { Written list.old list.new (3 * count) (3 * (count + 1)) (start ∷ last ∷ period ∷ []) }
-{
-    list[3 * count] = start as u32;
-    list[3 * count + 1] = last as u32;
-    list[3 * count + 2] = period as u32;
-}
-
-// Lists the run whose last root starts at i, if there is one; the number of entries then. The keys say how
-// letters compare; the order, 0 or 1, tells the two passes apart: runs that reach the end of the text are
-// those of the first.
-fn list_at(
-    text: &[u8],
-    order: u32,
-    keys: &[u8; 256],
-    list: &mut [u32],
-    count: usize,
-    i: usize,
-    end: usize,
-    k: usize,
-) -> usize
-    requires at_root { AtRoot (rank_row keys.now text.now) i end k }
-    requires room_at { RoomAt order (rank_row keys.now text.now) list.old count i }
-    requires text_len_bound { length (rank_row keys.now text.now) ≤ max_length }
-    ensures content { Listed order (rank_row keys.now text.now) list.old list.new i count result }
-{
-    let p = end - i;
-    let s = start_of(text, keys, i, p);
-    if i - s + k < p {
-        return count;
-    }
-    if order != 0 {
-        if end + k == text.len() {
-            return count;
+    for s in (0..i).rev() {
+        if text.differ(s, s + p) {
+            return s + 1;
         }
     }
-    write_entry(list, count, s, end + k - 1, p);
-    count + 1
+    0
 }
 
-// Joins at position i, and lists the run whose last root starts there.
-fn visit(
-    text: &[u8],
-    order: u32,
-    ranked: bool,
-    keys: &[u8; 256],
-    buf: &mut [u32],
-    list: &mut [u32],
+// The entries found so far, in the first places of the list.
+#[derive(Drop)]
+struct Found<'a> {
+    list: &'a mut [u32],
     count: usize,
-    i: usize,
-) -> usize
-    requires { VisitReady order (rank_row keys.now text.now) buf.old list.old count i }
-    ensures content { Visited order (rank_row keys.now text.now) buf.old buf.new list.old list.new i count result }
-{
-    let w = bytes::join(text, keys, buf, i);
-    let end = w.end;
-    let agreed = w.agreed;
-    let part = w.part;
-    let outcome = w.stop;
-    let k = extended(text, ranked, keys, buf, i, end, agreed, outcome);
-    places::store_word(buf, i, end, k, part);
-    let Comparison::Above = outcome else {
-        return count;
-    };
-    list_at(text, order, keys, list, count, i, end, k)
 }
 
-// One order: visits every position from the last to the first, so that its array stands in the buffer, and its runs in the list from entry `from`
-// on; the number of entries then.
-fn pass(
-    text: &[u8],
-    order: u32,
-    ranked: bool,
-    keys: &[u8; 256],
-    buf: &mut [u32],
-    list: &mut [u32],
-    from: usize,
-) -> usize
-    requires { PassReady order (rank_row keys.now text.now) buf.old list.old from }
-    ensures content { OrderDone decided_rising order (rank_row keys.now text.now) buf.old buf.new list.old list.new from result }
-{
-    let mut i = text.len();
-    let mut count = from;
-    while 0 < i {
-        i -= 1;
-        count = visit(text, order, ranked, keys, buf, list, count, i);
+impl Found<'_> {
+    // Adds a run.
+    fn push(&mut self, start: usize, last: usize, period: usize)
+        requires room { 3 * self.old.count + 3 ≤ length self.old.list.now }
+        requires small { (start ≤ max_length) × (last ≤ max_length) × (period ≤ max_length) }
+        ensures same_list { self.new.list.ghost_name ≡ self.old.list.ghost_name }
+        ensures content { Written self.old.list.now self.new.list.now (3 * self.old.count) (3 * self.new.count) (start ∷ last ∷ period ∷ []) }
+        ensures count { self.new.count ≡ self.old.count + 1 }
+    {
+        let at = 3 * self.count;
+        self.list[at] = start as u32;
+        self.list[at + 1] = last as u32;
+        self.list[at + 2] = period as u32;
+        self.count += 1;
     }
-    places::restore_all(buf, text.len());
-    count
+}
+
+// One pass of the join loop over a text by its keys. The order tells the two passes apart: runs that reach the end of the text are those of the rising one.
+#[derive(Clone, Copy)]
+struct Pass<'a, M> {
+    text: Keyed<'a>,
+    order: Order,
+    measure: M,
+}
+
+impl<M: Measure> Pass<'_, M> {
+    // How far the suffix at i agrees with the one behind the word joined there: on all letters that do, unless the two factors are the same; 0 at the
+    // end of the text.
+    fn extended(&self, buf: &[u32], i: usize, word: Joined) -> usize
+        requires { StoppedAt (row self.now.text) buf.now i word.end word.agreed word.stop }
+        ensures result { ExtendedTo (row self.now.text) i word.end result word.stop }
+    {
+        if self.text.len() <= word.end {
+            return 0;
+        }
+        let Ordering::Greater = word.stop else {
+            return word.agreed;
+        };
+        if word.agreed < letters::wide(buf[word.end]) {
+            return word.agreed;
+        }
+        let more = self
+            .measure
+            .agreement(self.text, i + word.agreed, word.end + word.agreed);
+        word.agreed + more
+    }
+
+    // Runs that end before `end` are among those of this pass.
+    fn lists(&self, end: usize) -> bool
+        requires { end ≤ length (row self.now.text) }
+        ensures answer { result ≡ ltb end (end_bound (order_number self.now.order) (length (row self.now.text))) }
+    {
+        match self.order {
+            Order::Rising => true,
+            Order::Falling => end < self.text.len(),
+        }
+    }
+
+    // Lists the run whose last root starts at i, if there is one: the next smaller suffix starts at `end`, and the two agree on k letters.
+    fn list_at(&self, found: &mut Found<'_>, i: usize, end: usize, k: usize)
+        requires at_root { AtRoot (row self.now.text) i end k }
+        requires room_at { RoomAt (order_number self.now.order) (row self.now.text) found.old.list.now found.old.count i }
+        requires small { length (row self.now.text) ≤ max_length }
+        ensures same_list { found.new.list.ghost_name ≡ found.old.list.ghost_name }
+        ensures content { Listed (order_number self.now.order) (row self.now.text) found.old.list.now found.new.list.now i found.old.count found.new.count }
+    {
+        let p = end - i;
+        let s = start_of(self.text, i, p);
+        if i - s + k < p {
+            return;
+        }
+        if !self.lists(end + k) {
+            return;
+        }
+        found.push(s, end + k - 1, p);
+    }
+
+    // Joins at position i, and lists the run whose last root starts there.
+    fn visit(&self, buf: &mut [u32], found: &mut Found<'_>, i: usize)
+        requires { VisitReady (order_number self.now.order) (row self.now.text) buf.old found.old.list.now found.old.count i }
+        ensures same_list { found.new.list.ghost_name ≡ found.old.list.ghost_name }
+        ensures content { Visited (order_number self.now.order) (row self.now.text) buf.old buf.new found.old.list.now found.new.list.now i found.old.count found.new.count }
+    {
+        let word = joined::join(self.text, buf, i);
+        let k = self.extended(buf, i, word);
+        Joined { agreed: k, ..word }.store(buf, i);
+        if let Ordering::Greater = word.stop {
+            self.list_at(found, i, word.end, k);
+        }
+    }
+
+    // Visits every position from the last to the first, so that the array stands in the buffer, and the runs in the list behind those found before.
+    fn run(&self, buf: &mut [u32], found: &mut Found<'_>)
+        requires { PassReady (order_number self.now.order) (row self.now.text) buf.old found.old.list.now found.old.count }
+        ensures same_list { found.new.list.ghost_name ≡ found.old.list.ghost_name }
+        ensures content { OrderDone decided_rising (order_number self.now.order) (row self.now.text) buf.old buf.new found.old.list.now found.new.list.now found.old.count found.new.count }
+    {
+        for i in (0..self.text.len()).rev() {
+            self.visit(buf, found, i);
+        }
+        factor::restore_all(buf, self.text.len());
+    }
 }
 
 // Both orders, the runs sorted by start and then by last position; the number of runs.
-fn find(text: &[u8], ranked: bool, keys: &[u8; 256], work: &mut [u32], list: &mut [u32]) -> usize
-    requires bytes { Bytes keys.now }
-    requires find_ready { FindReady (rank_row keys.now text.now) work.old list.old }
-    ensures content { RunsFound (rank_row keys.now text.now) work.old work.new list.old list.new result }
+fn find<M: Measure>(text: Keyed<'_>, measure: M, work: &mut [u32], list: &mut [u32]) -> usize
+    requires text { Bytes text.text.now }
+    requires keys { Bytes text.keys.now }
+    requires find_ready { FindReady (row text) work.old list.old }
+    ensures content { RunsFound (row text.entry) work.old work.new list.old list.new result }
 {
+    let mut found = Found { list, count: 0 };
+    let rising = Pass {
+        text,
+        order: Order::Rising,
+        measure,
+    };
+    rising.run(work, &mut found);
+    let keys = letters::turned_table(text.keys);
+    let falling = Pass {
+        text: Keyed {
+            text: text.text,
+            keys: &keys,
+        },
+        order: Order::Falling,
+        measure,
+    };
     let n = text.len();
-    let first = pass(text, 0, ranked, keys, work, list, 0);
-    let mut turned = [0u8; 256];
-    letters::turned_table(keys, &mut turned);
-    let count = pass(text, 1, ranked, &turned, &mut work[n..], list, first);
+    falling.run(&mut work[n..], &mut found);
+    let count = found.count;
     sorting::sort_triples(list, count);
     count
-}
-
-// The answer of the checks; where they pass, the runs are listed and the arrays written.
-fn answered(
-    c: Check,
-    text: &[u8],
-    ranked: bool,
-    keys: &[u8; 256],
-    work: &mut [u32],
-    list: &mut [u32],
-) -> Answer
-    requires bytes { Bytes keys.now }
-    requires ready_where { ReadyWhere c (rank_row keys.now text.now) work.old list.old }
-    ensures answer { result ≡ answer_to c (accepted_with (length (run_list (rank_row keys.now text.now)))) }
-    ensures entries { list.new ≡ content_after result (run_numbers (rank_row keys.now text.now)) list.old }
-    ensures arrays { work.new ≡ content_after result (both_arrays (rank_row keys.now text.now)) work.old }
-{
-    match c {
-        Check::Failed { reason, position } => answer::refused(reason, position),
-        Check::Passed => answer::accepted(find(text, ranked, keys, work, list) as u32),
-    }
 }
 
 // All runs of a text of bytes: start, last position and period of each, by start and then by last position. Afterwards the work buffer
@@ -201,10 +215,12 @@ pub fn runs(text: &[u8], work: &mut [u32], list: &mut [u32]) -> Answer
     ensures entries { list.new ≡ content_after result (run_numbers text.now) list.old }
     ensures arrays { work.new ≡ content_after result (both_arrays text.now) work.old }
 {
-    let c = checks::runs(text.len(), list.len(), work.len());
-    let mut keys = [0u8; 256];
-    letters::rank_table(0, &text[..0], &mut keys);
-    answered(c, text, false, &keys, work, list)
+    if let Err(refusal) = checks::runs(text.len(), list.len(), work.len()) {
+        return Answer::from(refusal);
+    }
+    let keys = letters::rank_table(0, &[]);
+    let count = find(Keyed { text, keys: &keys }, Eights, work, list);
+    answer::accept(count as u32)
 }
 
 // The same by the ranks of a table: letters with one rank count as the same. Afterwards the work buffer holds the Lyndon array rising by
@@ -214,8 +230,10 @@ pub fn runs_ranked(text: &[u8], table: &[u8], work: &mut [u32], list: &mut [u32]
     ensures entries { list.new ≡ content_after result (run_numbers (rank_row table.now text.now)) list.old }
     ensures arrays { work.new ≡ content_after result (both_arrays (rank_row table.now text.now)) work.old }
 {
-    let c = checks::ranked_runs(text.len(), table.len(), list.len(), work.len());
-    let mut keys = [0u8; 256];
-    letters::rank_table(limits::RANKED, table, &mut keys);
-    answered(c, text, true, &keys, work, list)
+    if let Err(refusal) = checks::ranked_runs(text.len(), table.len(), list.len(), work.len()) {
+        return Answer::from(refusal);
+    }
+    let keys = letters::rank_table(limits::RANKED, table);
+    let count = find(Keyed { text, keys: &keys }, Singly, work, list);
+    answer::accept(count as u32)
 }

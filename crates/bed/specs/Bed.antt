@@ -29,10 +29,14 @@ bed_lines name (r ∷ rs) = bed_line name r ++ bed_lines name rs
 abbrev pub entry_with : ℕ → ℕ → ℕ → Entry
 entry_with start last period = record { start = start; last = last; period = period }
 
+-- A run by the first three numbers of a list.
+abbrev pub entry_in : List ℕ → Entry
+entry_in l = entry_with (get_or l 0 0) (get_or l 1 0) (get_or l 2 0)
+
 -- The first count runs of a list of numbers, three for each run.
 abbrev pub entries_of : ℕ → List ℕ → List Entry
 entries_of zero l = []
-entries_of (suc k) l = entry_with (get_or l 0 0) (get_or l 1 0) (get_or l 2 0) ∷ entries_of k (drop 3 l)
+entries_of (suc k) l = entry_in l ∷ entries_of k (drop 3 l)
 
 -- The lines written for the first count runs of a list into so many places: none where the name is too long, the list too short or the places too few.
 abbrev pub lines_fitting : List ℕ → List ℕ → ℕ → ℕ → List ℕ

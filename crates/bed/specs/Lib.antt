@@ -3,3 +3,4 @@ pub mod Decimal
 pub mod Bed
 pub mod Refusal
 pub mod Laws
+pub mod Text

@@ -11,7 +11,7 @@ ghost use Rattle.bed.specs.Bed.{lines_fitting};
 ghost use Rattle.bed.specs.Refusal.{refusal_fitting};
 
 use crate::lines::write_runs;
-use crate::text::{write_byte, write_labelled};
+use crate::text::Text;
 use fasta_record::bytes::LINE_END;
 use fasta_record::name::MAX_NAME;
 
@@ -29,16 +29,11 @@ const MAX_REFUSAL: usize = 13 + 2 * MAX_DIGITS;
 pub fn write_lines(name: &[u8], runs: &[u32], count: usize, out: &mut [u8]) -> usize
     ensures content { Written out.old out.new 0 result (lines_fitting name.now runs.now count (length out.old)) }
 {
-    if name.len() > MAX_NAME {
+    let (runs, _) = runs.as_chunks::<3>();
+    if name.len() > MAX_NAME || count > runs.len() || count > out.len() / MAX_LINE {
         return 0;
     }
-    if count > runs.len() / 3 {
-        return 0;
-    }
-    if count > out.len() / MAX_LINE {
-        return 0;
-    }
-    write_runs(name, runs, count, out)
+    write_runs(name, &runs[..count], out)
 }
 
 // Writes the line of a refusal, with its number and position, or nothing (0 bytes) where `out` has fewer places than the longest such line takes.
@@ -48,7 +43,9 @@ pub fn write_refusal(number: u32, position: u32, out: &mut [u8]) -> usize
     if out.len() < MAX_REFUSAL {
         return 0;
     }
-    let past_number = write_labelled(b"refused ", number as usize, out, 0);
-    let past_position = write_labelled(b" at ", position as usize, out, past_number);
-    write_byte(LINE_END, out, past_position)
+    let mut text = Text::new(out);
+    text.labelled(b"refused ", number as usize);
+    text.labelled(b" at ", position as usize);
+    text.byte(LINE_END);
+    text.len
 }

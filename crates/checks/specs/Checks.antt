@@ -1,12 +1,11 @@
 -- The checks of document 01's table ("Where each check stands") and of document 02, each with what follows where it does not refuse.
 -- Assumes nothing.
-use Rattle.std.specs.Prelude.{◌≡◌, Bool, true, not, ◌&&◌, ℕ, ltb, eqb}
-use Rattle.answer.specs.declared.Answer.{Answer}
-use Rattle.checks.specs.declared.Check.{Check}
-use Rattle.checks.specs.declared.Check.TheVariants.{Passed, Failed}
+use Rattle.std.specs.Prelude.{◌≡◌, Bool, true, not, ◌&&◌, ℕ, ltb, eqb, ⊤, Result, Ok, Err}
+use Rattle.answer.specs.declared.Refusal.{Refusal}
 use Rattle.answer.specs.declared.Reason.TheVariants.{EmptyText, TextTooLong, UnknownOrder, ShortOutput, ShortWork, FileTooLong}
 use Rattle.answer.specs.declared.Reason.TheVariants.{WrongTable, NotLyndon, UnknownTable, UnwrittenTable}
-use Rattle.answer.specs.Answers.{refused_for, refused_if}
+use Rattle.answer.specs.declared.Answer.{Answer}
+use Rattle.answer.specs.Answers.{refused_by, refused_if}
 use Rattle.answer.specs.Limits.{max_length, max_letters, max_input, run_list_length, prefix_count, work_length, ranked_order, table_length}
 
 -- Refusal 1: a text or array of n letters or entries.
@@ -114,11 +113,15 @@ table_write_checked exists entries rest = existence_checked exists (table_checke
 abbrev pub reader_checked : ℕ → ℕ → Answer → Answer
 reader_checked n given rest = output_checked max_letters given (input_checked n rest)
 
--- The answer where `rest` follows the checks so far.
-abbrev pub answer_to : Check → Answer → Answer
-answer_to Passed rest = rest
-answer_to (Failed reason position) rest = refused_for reason position
+-- What the checks of a call say: nothing, or the first refusal.
+abbrev pub Check : Type 0
+Check = Result ⊤ Refusal
 
--- A check more: where those before it pass, the answer is this check's, else the answer before.
-pub record Adds (earlier now : Check) (check : Answer → Answer) : Type 0 where
-  pub answer : (rest : Answer) → answer_to now rest ≡ answer_to earlier (check rest)
+-- The answer where `rest` follows the checks.
+abbrev pub answer_to : Check → Answer → Answer
+answer_to (Ok passed) rest = rest
+answer_to (Err refusal) rest = refused_by refusal
+
+-- What the checks of a call say is that of a check: its refusal where it refuses, else nothing.
+pub record Refuses (said : Check) (check : Answer → Answer) : Type 0 where
+  pub answer : (rest : Answer) → answer_to said rest ≡ check rest

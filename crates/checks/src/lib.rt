@@ -1,258 +1,262 @@
-// The checks that calls begin with: together for each kind of call, below one by one. A check takes what those before it say, and the first that
-// fails is kept. Contracts cite `specs/Checks.antt`. Nothing is assumed.
+// The checks that calls begin with: together for each kind of call, below one by one. The first that fails is the call's answer.
+// Contracts cite `specs/Checks.antt`. Nothing is assumed.
 #![tactic(auto)]
 
 pub mod limits;
 
-ghost use Rattle.answer.specs.Limits.{max_length, run_list_length, work_length};
+ghost use Rattle.std.specs.Prelude.{◌≡◌, true, false, ◌<◌, ◌≤◌, OnOk};
+ghost use Rattle.answer.specs.Limits.{Sized, max_length, max_letters, max_input, run_list_length, work_length, ranked_order, table_length};
 ghost use Rattle.answer.specs.Answers.{refused_if};
-ghost use Rattle.checks.specs.Checks.{Adds, empty_checked, limit_checked, length_checked, order_checked, output_checked, work_checked};
+ghost use Rattle.checks.specs.Checks.{Refuses, empty_checked, limit_checked, length_checked, order_checked, output_checked, work_checked};
 ghost use Rattle.checks.specs.Checks.{input_checked, text_checked, ordered_text_checked, forest_checked, runs_checked, reader_checked};
-ghost use Rattle.checks.specs.Checks.{table_checked, ranked_checked, ranked_text_checked, ranked_forest_checked, ranked_runs_checked};
+ghost use Rattle.checks.specs.Checks.{uses_table, table_checked, ranked_checked, ranked_text_checked, ranked_forest_checked, ranked_runs_checked};
 ghost use Rattle.checks.specs.Checks.{existence_checked, usable_checked, table_use_checked, table_write_checked};
 ghost use Rattle.checks.specs.Checks.{lyndon_checked, two_texts_checked};
-ghost use Rattle.checks.specs.declared.Check.TheVariants.{Passed};
 
-use answer::Reason;
-
-// What the checks so far say.
-#[derive(Clone, Copy)]
-pub enum Check {
-    Passed,
-    Failed { reason: Reason, position: u32 },
-}
+use answer::{Reason, Refusal};
 
 // 1 and 2: a call on n letters or entries.
-pub fn array(n: usize) -> Check
-    ensures check { Adds Passed result (length_checked max_length n) }
+pub fn length(n: usize) -> Result<(), Refusal>
+    ensures check { Refuses result (length_checked max_length n) }
+    ensures passed { OnOk result (Sized n) }
 {
-    length(Check::Passed, limits::MAX_LENGTH, n)
+    nonempty(n)?;
+    at_most_limit(n)
 }
 
 // 1, 2 and 4: a call on n letters or entries that needs as many places.
-pub fn text(n: usize, given: usize) -> Check
-    ensures check { Adds Passed result (text_checked n given) }
+pub fn text(n: usize, given: usize) -> Result<(), Refusal>
+    ensures check { Refuses result (text_checked n given) }
+    ensures passed { OnOk result (Sized n × (n ≤ given)) }
 {
-    output(length(Check::Passed, limits::MAX_LENGTH, n), n, given)
+    length(n)?;
+    output(n, given)
 }
 
 // 1, 2, 3 and 4: such a call on letters that has an order number, 0 or 1.
-pub fn ordered_text(letters: usize, number: u32, given: usize) -> Check
-    ensures check { Adds Passed result (ordered_text_checked letters number given) }
+pub fn ordered_text(letters: usize, number: u32, given: usize) -> Result<(), Refusal>
+    ensures check { Refuses result (ordered_text_checked letters number given) }
+    ensures passed { OnOk result (Sized letters × (number ≤ 1) × (letters ≤ given)) }
 {
-    let sized = length(Check::Passed, limits::MAX_LENGTH, letters);
-    let named = order(sized, 1, number);
-    output(named, letters, given)
+    length(letters)?;
+    order(1, number)?;
+    output(letters, given)
 }
 
-// 1 for either text, then 2 for either text: a call on two texts, of m and n letters.
-pub fn two_texts(m: usize, n: usize) -> Check
-    ensures check { Adds Passed result (two_texts_checked m n) }
+// 1 for either text, then 2 for either text: a call on two texts, with their lengths.
+pub fn two_texts(first: usize, second: usize) -> Result<(), Refusal>
+    ensures check { Refuses result (two_texts_checked first second) }
+    ensures passed { OnOk result (Sized first × Sized second) }
 {
-    let first_some = nonempty(Check::Passed, m);
-    let both_some = nonempty(first_some, n);
-    let first_sized = at_most(both_some, limits::MAX_LENGTH, m);
-    at_most(first_sized, limits::MAX_LENGTH, n)
+    nonempty(first)?;
+    nonempty(second)?;
+    at_most_limit(first)?;
+    at_most_limit(second)
 }
 
 // 1, 2, 3 and 16: a call on letters in order 0, 1 or 2, with the length of its rank table.
-fn ranked(letters: usize, number: u32, entries: usize) -> Check
-    ensures check { Adds Passed result (ranked_checked letters number entries) }
+fn ranked(size: usize, number: u32, entries: usize) -> Result<(), Refusal>
+    ensures check { Refuses result (ranked_checked size number entries) }
+    ensures passed { OnOk result (Sized size × (number ≤ ranked_order) × (uses_table number ≡ true → entries ≡ table_length)) }
 {
-    let measured = length(Check::Passed, limits::MAX_LENGTH, letters);
-    let named = order(measured, limits::RANKED, number);
-    table(named, number == limits::RANKED, entries)
+    length(size)?;
+    order(limits::RANKED, number)?;
+    table(number == limits::RANKED, entries)
 }
 
 // 1, 2, 3, 16 and 4: such a call that needs as many places.
-pub fn ranked_text(letters: usize, number: u32, entries: usize, given: usize) -> Check
-    ensures check { Adds Passed result (ranked_text_checked letters number entries given) }
+pub fn ranked_text(size: usize, number: u32, entries: usize, given: usize) -> Result<(), Refusal>
+    ensures check { Refuses result (ranked_text_checked size number entries given) }
+    ensures passed { OnOk result (Sized size × (number ≤ ranked_order) × (uses_table number ≡ true → entries ≡ table_length) × (size ≤ given)) }
 {
-    output(ranked(letters, number, entries), letters, given)
+    ranked(size, number, entries)?;
+    output(size, given)
 }
 
 // 1, 2, 3, 16 and 4, of both buffers: a forest of letters in such an order.
 pub fn ranked_forest(
-    letters: usize,
+    size: usize,
     number: u32,
     entries: usize,
     first: usize,
     past: usize,
-) -> Check
-    ensures check { Adds Passed result (ranked_forest_checked letters number entries first past) }
+) -> Result<(), Refusal>
+    ensures check { Refuses result (ranked_forest_checked size number entries first past) }
+    ensures passed { OnOk result (Sized size × (number ≤ ranked_order) × (uses_table number ≡ true → entries ≡ table_length) × (size ≤ first) × (size ≤ past)) }
 {
-    output(ranked_text(letters, number, entries, first), letters, past)
+    ranked_text(size, number, entries, first)?;
+    output(size, past)
 }
 
 // 1, 2 and 4, of both buffers: a forest of n letters or entries.
-pub fn forest(n: usize, first: usize, past: usize) -> Check
-    ensures check { Adds Passed result (forest_checked n first past) }
+pub fn forest(n: usize, first: usize, past: usize) -> Result<(), Refusal>
+    ensures check { Refuses result (forest_checked n first past) }
+    ensures passed { OnOk result (Sized n × (n ≤ first) × (n ≤ past)) }
 {
-    output(text(n, first), n, past)
+    text(n, first)?;
+    output(n, past)
 }
 
 // 1, 2, 4 and 5: the runs of n letters, with the lengths of list and work buffer.
-pub fn runs(n: usize, list: usize, buffer: usize) -> Check
-    ensures check { Adds Passed result (runs_checked n list buffer) }
+pub fn runs(size: usize, list: usize, buffer: usize) -> Result<(), Refusal>
+    ensures check { Refuses result (runs_checked size list buffer) }
+    ensures passed { OnOk result (Sized size × (run_list_length size ≤ list) × (work_length size ≤ buffer)) }
 {
-    let listed = run_list(length(Check::Passed, limits::MAX_LENGTH, n), n, list);
-    run_work(listed, n, buffer)
+    length(size)?;
+    run_list(size, list)?;
+    run_work(size, buffer)
 }
 
 // 1, 2, 16, 4 and 5: the runs of n letters by a rank table.
-pub fn ranked_runs(n: usize, entries: usize, list: usize, buffer: usize) -> Check
-    ensures check { Adds Passed result (ranked_runs_checked n entries list buffer) }
+pub fn ranked_runs(size: usize, entries: usize, places: usize, work: usize) -> Result<(), Refusal>
+    ensures check { Refuses result (ranked_runs_checked size entries places work) }
+    ensures passed { OnOk result (Sized size × (entries ≡ table_length) × (run_list_length size ≤ places) × (work_length size ≤ work)) }
 {
-    let sized = length(Check::Passed, limits::MAX_LENGTH, n);
-    let ranked = table(sized, true, entries);
-    run_work(run_list(ranked, n, list), n, buffer)
+    length(size)?;
+    table(true, entries)?;
+    run_list(size, places)?;
+    run_work(size, work)
 }
 
 // 21 and 22: a call that uses or reads a table of a store.
-pub fn table_use(there: bool, usable: bool) -> Check
-    ensures check { Adds Passed result (table_use_checked there usable) }
+pub fn table_use(there: bool, usable: bool) -> Result<(), Refusal>
+    ensures check { Refuses result (table_use_checked there usable) }
+    ensures passed { OnOk result ((there ≡ true) × (usable ≡ true)) }
 {
-    let known = existence(Check::Passed, there);
-    usability(known, usable)
+    existence(there)?;
+    usability(usable)
 }
 
 // 21 and 16: a call that writes a table of a store.
-pub fn table_write(there: bool, entries: usize) -> Check
-    ensures check { Adds Passed result (table_write_checked there entries) }
+pub fn table_write(exists: bool, given: usize) -> Result<(), Refusal>
+    ensures check { Refuses result (table_write_checked exists given) }
+    ensures passed { OnOk result ((exists ≡ true) × (given ≡ table_length)) }
 {
-    let named = existence(Check::Passed, there);
-    table(named, true, entries)
+    existence(exists)?;
+    table(true, given)
 }
 
 // 4 and 15: the reader, on an input of n bytes.
-pub fn reader(n: usize, given: usize) -> Check
-    ensures check { Adds Passed result (reader_checked n given) }
+pub fn reader(n: usize, given: usize) -> Result<(), Refusal>
+    ensures check { Refuses result (reader_checked n given) }
+    ensures passed { OnOk result ((max_letters ≤ given) × (n ≤ max_input)) }
 {
-    let roomy = output(Check::Passed, limits::MAX_LETTERS, given);
-    input(roomy, n)
+    output(limits::MAX_LETTERS, given)?;
+    input(n)
 }
 
 // A check that fails or not, with its reason and position.
-fn refuse_if(earlier: Check, fails: bool, reason: Reason, position: u32) -> Check
-    ensures check { Adds earlier result (refused_if fails reason position) }
+fn refuse_if(fails: bool, reason: Reason, position: u32) -> Result<(), Refusal>
+    ensures check { Refuses result (refused_if fails reason position) }
+    ensures passed { OnOk result (fails ≡ false) }
 {
-    match earlier {
-        Check::Passed => {
-            if fails {
-                Check::Failed { reason, position }
-            } else {
-                Check::Passed
-            }
-        }
-        Check::Failed {
-            reason: _,
-            position: _,
-        } => earlier,
+    if fails {
+        Err(Refusal { reason, position })
+    } else {
+        Ok(())
     }
 }
 
 // 1: a text or array of n letters or entries is not empty.
-fn nonempty(earlier: Check, n: usize) -> Check
-    ensures check { Adds earlier result (empty_checked n) }
+fn nonempty(n: usize) -> Result<(), Refusal>
+    ensures check { Refuses result (empty_checked n) }
+    ensures passed { OnOk result (0 < n) }
 {
-    refuse_if(earlier, n == 0, Reason::EmptyText, 0)
+    refuse_if(n == 0, Reason::EmptyText, 0)
 }
 
-// 2: it has at most `limit` of them.
-fn at_most(earlier: Check, limit: usize, n: usize) -> Check
-    ensures check { Adds earlier result (limit_checked limit n) }
+// 2: it has at most 1,048,576 of them.
+fn at_most_limit(n: usize) -> Result<(), Refusal>
+    ensures check { Refuses result (limit_checked max_length n) }
+    ensures passed { OnOk result (n ≤ max_length) }
 {
-    refuse_if(earlier, limit < n, Reason::TextTooLong, 0)
-}
-
-// 1 and 2.
-fn length(earlier: Check, limit: usize, n: usize) -> Check
-    ensures check { Adds earlier result (length_checked limit n) }
-{
-    at_most(nonempty(earlier, n), limit, n)
+    refuse_if(limits::MAX_LENGTH < n, Reason::TextTooLong, 0)
 }
 
 // 3: the order number is at most `last`.
-fn order(earlier: Check, last: u32, order: u32) -> Check
-    ensures check { Adds earlier result (order_checked last order) }
+fn order(last: u32, order: u32) -> Result<(), Refusal>
+    ensures check { Refuses result (order_checked last order) }
+    ensures passed { OnOk result (order ≤ last) }
 {
-    refuse_if(earlier, last < order, Reason::UnknownOrder, 0)
+    refuse_if(last < order, Reason::UnknownOrder, 0)
 }
 
 // 16: a rank table that is used has an entry for each byte.
-fn table(earlier: Check, used: bool, entries: usize) -> Check
-    ensures check { Adds earlier result (table_checked used entries) }
+fn table(used: bool, entries: usize) -> Result<(), Refusal>
+    ensures check { Refuses result (table_checked used entries) }
+    ensures passed { OnOk result (used ≡ true → entries ≡ table_length) }
 {
-    if used {
-        refuse_if(
-            earlier,
-            entries != limits::TABLE_LENGTH,
-            Reason::WrongTable,
-            0,
-        )
-    } else {
-        earlier
-    }
+    refuse_if(
+        used && entries != limits::TABLE_LENGTH,
+        Reason::WrongTable,
+        0,
+    )
 }
 
 // 21: the table of a store that a call names exists.
-fn existence(earlier: Check, there: bool) -> Check
-    ensures check { Adds earlier result (existence_checked there) }
+fn existence(there: bool) -> Result<(), Refusal>
+    ensures check { Refuses result (existence_checked there) }
+    ensures passed { OnOk result (there ≡ true) }
 {
-    refuse_if(earlier, !there, Reason::UnknownTable, 0)
+    refuse_if(!there, Reason::UnknownTable, 0)
 }
 
 // 22: it is a built-in table, or was written.
-fn usability(earlier: Check, usable: bool) -> Check
-    ensures check { Adds earlier result (usable_checked usable) }
+fn usability(usable: bool) -> Result<(), Refusal>
+    ensures check { Refuses result (usable_checked usable) }
+    ensures passed { OnOk result (usable ≡ true) }
 {
-    refuse_if(earlier, !usable, Reason::UnwrittenTable, 0)
+    refuse_if(!usable, Reason::UnwrittenTable, 0)
 }
 
 // 17: a text that must be a Lyndon word is one.
-pub fn lyndon(earlier: Check, holds: bool) -> Check
-    ensures check { Adds earlier result (lyndon_checked holds) }
+pub fn lyndon(holds: bool) -> Result<(), Refusal>
+    ensures check { Refuses result (lyndon_checked holds) }
+    ensures passed { OnOk result (holds ≡ true) }
 {
-    refuse_if(earlier, !holds, Reason::NotLyndon, 0)
+    refuse_if(!holds, Reason::NotLyndon, 0)
 }
 
 // 4: an output buffer has the places needed.
-pub fn output(earlier: Check, needed: usize, given: usize) -> Check
-    ensures check { Adds earlier result (output_checked needed given) }
+pub fn output(needed: usize, given: usize) -> Result<(), Refusal>
+    ensures check { Refuses result (output_checked needed given) }
+    ensures passed { OnOk result (needed ≤ given) }
 {
-    refuse_if(earlier, given < needed, Reason::ShortOutput, 0)
+    refuse_if(given < needed, Reason::ShortOutput, 0)
 }
 
 // 5: the work buffer has the places needed.
-fn work(earlier: Check, needed: usize, given: usize) -> Check
-    ensures check { Adds earlier result (work_checked needed given) }
+fn work(needed: usize, given: usize) -> Result<(), Refusal>
+    ensures check { Refuses result (work_checked needed given) }
+    ensures passed { OnOk result (needed ≤ given) }
 {
-    refuse_if(earlier, given < needed, Reason::ShortWork, 0)
+    refuse_if(given < needed, Reason::ShortWork, 0)
 }
 
 // 4, of the run list of n letters: three places for each of n − 1 runs. n is compared with the runs that have room and one more, so that
 // neither a product nor a difference can wrap.
-fn run_list(earlier: Check, n: usize, given: usize) -> Check
-    ensures check { Adds earlier result (output_checked (run_list_length n) given) }
+fn run_list(n: usize, given: usize) -> Result<(), Refusal>
+    ensures check { Refuses result (output_checked (run_list_length n) given) }
+    ensures passed { OnOk result (run_list_length n ≤ given) }
 {
-    output(earlier, n, given / limits::RUN_PLACES + 1)
+    output(n, given / limits::RUN_PLACES + 1)
 }
 
 // 5, of the work buffer of the runs of n letters; a quotient is compared, so that no product wraps.
-fn run_work(earlier: Check, n: usize, given: usize) -> Check
-    ensures check { Adds earlier result (work_checked (work_length n) given) }
+fn run_work(n: usize, given: usize) -> Result<(), Refusal>
+    ensures check { Refuses result (work_checked (work_length n) given) }
+    ensures passed { OnOk result (work_length n ≤ given) }
 {
-    work(earlier, n, given / limits::WORK_PLACES)
+    work(n, given / limits::WORK_PLACES)
 }
 
 // 15: the input of the reader has at most as many bytes as its limit.
-fn input(earlier: Check, n: usize) -> Check
-    ensures check { Adds earlier result (input_checked n) }
+fn input(n: usize) -> Result<(), Refusal>
+    ensures check { Refuses result (input_checked n) }
+    ensures passed { OnOk result (n ≤ max_input) }
 {
-    let fails = limits::MAX_INPUT < n;
     refuse_if(
-        earlier,
-        fails,
+        limits::MAX_INPUT < n,
         Reason::FileTooLong,
         limits::MAX_INPUT as u32,
     )

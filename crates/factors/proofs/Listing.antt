@@ -5,18 +5,19 @@ use mathlib.Core.List.{List, [], ◌∷◌, ◌++◌, append_assoc, append-nil}
 use Prim.Native.Nat.{ℕ, ◌+◌, ◌*◌, ◌<◌, ◌≤◌}
 use native.Mathlib.Omega.{arith}
 use lib.ListN.{length, set}
+use borrow.Author.Tests.{lt-ltb, le-ltb}
 use Rattle.words.specs.Letters.{Letters}
 use Rattle.words.specs.Decided.{Decided}
 use Rattle.words.specs.Compute.Factorization.{factorization_of}
 use Rattle.answer.specs.Limits.{max_length}
 use Rattle.answer.specs.Content.{Written, TextRoom}
 use Rattle.answer.specs.ContentLaws.{written_none, written_one, written_size, written_append, written_as, written_whole}
-use Rattle.factors.specs.declared.scan.Scanned.{Scanned}
-use Rattle.factors.specs.Duval.{FactorList, listed_then, duval}
-use Rattle.factors.specs.DuvalSteps.{stretch_of, Bounded, WithinText}
+use Rattle.factors.specs.declared.scan.Stretch.{Stretch}
+use Rattle.factors.specs.Duval.{Scanned, FactorList, scan_of, listed_then, duval}
+use Rattle.factors.specs.DuvalSteps.{stretch_of, counted, comparisons_of, Bounded, WithinText}
 use Rattle.factors.specs.DuvalTurns.{unread, stretch_at, stretch_bounded}
 use Rattle.factors.specs.DuvalTurns.{Remaining, OneListed, remaining_all, remaining_step, remaining_none, remaining_counts}
-use Rattle.factors.specs.DuvalCount.{duval_below}
+use Rattle.factors.specs.DuvalCount.{duval_below, scan_counted}
 use Rattle.factors.specs.DuvalFactorization.{duval_factorization}
 use Rattle.factors.specs.Results.{FactorsListed}
 
@@ -57,6 +58,14 @@ module _ {O : Letters {0, 0} ℕ} (D : Decided O) where
     -- The next factor ends inside the text.
     pub listing_next : start < length x → (t : Scanned) → t ≡ stretch_at D 0 x start s → Bounded (length x) start (stretch_of t)
     listing_next l t e = subst (λ (r : Scanned). Bounded (length x) start (stretch_of r)) (sym e) (stretch_bounded D 0 x start s l w.within)
+
+    -- It lies in the stretch of a new scan, or of the last one.
+    pub listing_scanned : start < length x → s.end < start + s.period → (t : Stretch) → ((asked : ℕ) → t ≡ stretch_of (scan_of D 0 x start asked)) →
+        {n q : ℕ} → n ≡ length x → q ≡ comparisons_of n start t → counted t (s.comparisons + q) ≡ stretch_at D 0 x start s
+    listing_scanned l m t e f g = rw (g, f, stretch_at, lt-ltb s.end (start + s.period) m) (scan_counted D 0 x start s.comparisons l t (e s.comparisons))
+
+    pub listing_kept : start + s.period ≤ s.end → s ≡ stretch_at D 0 x start s
+    listing_kept m = rw (stretch_at, le-ltb s.end (start + s.period) m)
 
     -- The factor at `start` is listed.
     pub listing_step : start < length x → (t : Scanned) → t ≡ stretch_at D 0 x start s →

@@ -6,7 +6,12 @@ use Rattle.std.specs.Prelude.{◌≡◌, refl, true, false, List, [], ◌∷◌,
 use Rattle.std.proofs.Common.{arith}
 use Rattle.words.specs.Letters.{Letters}
 use Rattle.words.specs.Decided.{Decided, decided_rising, below, same, above}
-use Rattle.factors.specs.declared.scan.Scanned.{Scanned}
+
+-- What a scan found: from its start up to `end` the text repeats its first `period` letters, and so many comparisons were made by then.
+pub record Scanned : Type 0 where
+  pub period : ℕ
+  pub end : ℕ
+  pub comparisons : ℕ
 
 -- The scan that began at `start` is at position j, with `left` letters from there on; what it has read repeats its first p letters, and q
 -- comparisons were made up to now. A step asks how the letter at j compares with the one p before it: a question with three answers, which

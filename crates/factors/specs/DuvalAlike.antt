@@ -6,8 +6,7 @@ use Rattle.std.proofs.Common.{sym, ap, ◌∙◌, arith}
 use Rattle.std.proofs.Math.Decide.{dec_lt}
 use Rattle.words.specs.Letters.{Letters}
 use Rattle.words.specs.Decided.{Decided, Comparison}
-use Rattle.factors.specs.declared.scan.Scanned.{Scanned}
-use Rattle.factors.specs.Duval.{scan_from, scan_of, copies, restart, listed_then, list_from, duval}
+use Rattle.factors.specs.Duval.{Scanned, scan_from, scan_of, copies, restart, listed_then, list_from, duval}
 use Rattle.factors.specs.DuvalSteps.{answer_at, one_more, scan_end, scan_below, scan_same, scan_above, scan_steps, list_end, listed_behind, list_scan}
 
 module _

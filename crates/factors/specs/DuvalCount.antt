@@ -1,13 +1,13 @@
 -- How many letter comparisons Duval's scan makes: fewer than twice the letters of the text (document 02, E7).
 -- Assumes nothing.
 use Rattle.std.specs.Prelude.{◌≡◌, List, ℕ, zero, suc, ◌+◌, ◌-◌, ◌*◌, ◌<◌, ◌≤◌, length}
-use Rattle.std.proofs.Common.{sym, subst, arith}
+use Rattle.std.proofs.Common.{sym, ap, subst, arith}
 use Rattle.std.proofs.Math.Decide.{dec_lt}
 use Rattle.words.specs.Letters.{Letters}
 use Rattle.words.specs.Decided.{Decided}
-use Rattle.factors.specs.declared.scan.Scanned.{Scanned}
-use Rattle.factors.specs.Duval.{FactorList, scan_of, restart, list_from, duval}
-use Rattle.factors.specs.DuvalSteps.{stretch_of, Bounded, restart_here, restart_later, scan_steps, scan_bounded, list_end, list_scan}
+use Rattle.factors.specs.declared.scan.Stretch.{Stretch}
+use Rattle.factors.specs.Duval.{Scanned, FactorList, scan_of, restart, list_from, duval}
+use Rattle.factors.specs.DuvalSteps.{stretch_of, counted, comparisons_of, Bounded, restart_here, restart_later, scan_steps, scan_bounded, list_end, list_scan}
 
 -- A scan from `start`, begun after q comparisons, has stopped with s: it asked once about each letter behind the first, up to the one that
 -- stopped it or up to the end of the text of n letters.
@@ -51,6 +51,18 @@ module _ {ℓ κ} {A : Type ℓ} {O : Letters {ℓ, κ} A} (D : Decided O) (z : 
         on_below = λ p j r l c i. at_letter l (omega arith);
         on_end = λ p j r l i. at_end l i;
       }) q l (omega arith)
+
+  -- The comparisons of a scan follow from where it stopped.
+  pub scan_counted : (start q : ℕ) → start < length x → (t : Stretch) → t ≡ stretch_of (scan_of D z x start q) →
+      counted t (q + comparisons_of (length x) start t) ≡ scan_of D z x start q
+  scan_counted start q l t e = rw e (ap (counted (stretch_of s)) (told (scan_asked start q l) (scan_bounded D z x start q l)))
+    where
+      s : Scanned
+      s = scan_of D z x start q
+
+      told : Asked (length x) start q s → Bounded (length x) start (stretch_of s) → q + comparisons_of (length x) start (stretch_of s) ≡ s.comparisons
+      told (at_letter a b) k = omega (arith, k)
+      told (at_end a b) k = omega (arith, k)
 
   -- Comparisons are added, never taken away.
   pub list_counts : (most start q : ℕ) → q ≤ (list_from D z x most start q).comparisons

@@ -11,8 +11,7 @@ use Rattle.words.specs.Laws.SuffixOrder.{NextSmaller}
 use Rattle.words.specs.Laws.Repetition.{Repetition, Stops, repetition_start, repetition_longer, repetition_extended, repetition_next, repetition_ends}
 use Rattle.words.specs.Laws.FactorChain.{Chain, chain_factorization, factorization_unique}
 use Rattle.factors.specs.declared.scan.Stretch.{Stretch}
-use Rattle.factors.specs.declared.scan.Scanned.{Scanned}
-use Rattle.factors.specs.Duval.{FactorList, scan_of, duval}
+use Rattle.factors.specs.Duval.{Scanned, FactorList, scan_of, duval}
 use Rattle.factors.specs.DuvalSteps.{stretch_of, Bounded, WithinText, answer_at, scan_steps}
 use Rattle.factors.specs.DuvalTurns.{unread, stretch_at, stretch_cases, stretch_bounded}
 use Rattle.factors.specs.DuvalTurns.{Remaining, OneListed, remaining_all, remaining_step, remaining_none}

@@ -8,8 +8,7 @@ use Rattle.words.specs.Decided.{Decided, Comparison, below, same, above}
 use Rattle.words.specs.Laws.Periods.{period_copies}
 use Rattle.words.specs.Laws.SpanLyndon.{letters}
 use Rattle.words.specs.Laws.Repetition.{Repetition, repetition_start}
-use Rattle.factors.specs.declared.scan.Scanned.{Scanned}
-use Rattle.factors.specs.Duval.{scan_from, scan_of, copies, restart}
+use Rattle.factors.specs.Duval.{Scanned, scan_from, scan_of, copies, restart}
 use Rattle.factors.specs.DuvalSteps.{answer_at}
 use Rattle.factors.specs.DuvalFactorization.{repeats_same, repeats_above}
 use Rattle.factors.specs.DuvalCount.{restart_reached}

@@ -1,16 +1,23 @@
 -- The steps of Duval's scan, one by one, and its bounds.
 -- Assumes nothing.
-use Rattle.std.specs.Prelude.{◌≡◌, refl, Bool, true, false, List, [], ◌∷◌, ℕ, zero, suc, ◌+◌, ◌-◌, ◌*◌, ◌<◌, ◌≤◌, ltb, length, get_or}
+use Rattle.std.specs.Prelude.{◌≡◌, refl, Bool, true, false, List, [], ◌∷◌, ℕ, zero, suc, ◌+◌, ◌-◌, ◌*◌, ◌<◌, ◌≤◌, min, ltb, length, get_or}
 use Rattle.std.proofs.Common.{sym, ap, ◌∙◌, arith, zero-mul, suc-mul, lt-ltb, le-ltb}
 use Rattle.words.specs.Letters.{Letters}
 use Rattle.words.specs.Decided.{Decided, Comparison, below, same, above}
 use Rattle.factors.specs.declared.scan.Stretch.{Stretch}
-use Rattle.factors.specs.declared.scan.Scanned.{Scanned}
-use Rattle.factors.specs.Duval.{FactorList, scan_from, scan_of, copies_from, copies, restart, listed_then, list_from}
+use Rattle.factors.specs.Duval.{Scanned, FactorList, scan_from, scan_of, copies_from, copies, restart, listed_then, list_from}
 
 -- The stretch that a scan found.
 abbrev pub stretch_of : Scanned → Stretch
 stretch_of s = record { period = s.period; end = s.end }
+
+-- The same, with the comparisons made by then.
+abbrev pub counted : Stretch → ℕ → Scanned
+counted s q = record { period = s.period; end = s.end; comparisons = q }
+
+-- The comparisons of the scan from `start` that found it in a text of n letters: one for each letter behind the first, up to the one that stopped it.
+abbrev pub comparisons_of : ℕ → ℕ → Stretch → ℕ
+comparisons_of n start s = min s.end (n - 1) - start
 
 -- A stretch from `start`: a period that is not empty, one copy of it, and an end inside a text of n letters.
 pub record Bounded (n start : ℕ) (s : Stretch) : Type 0 where

@@ -4,8 +4,7 @@ use Rattle.std.specs.Prelude.{◌≡◌, refl, Bool, true, false, List, [], ◌�
 use Rattle.std.proofs.Common.{sym, ap, ap₂, ◌∙◌, arith, ltb-true, ltb-false}
 use Rattle.words.specs.Letters.{Letters}
 use Rattle.words.specs.Decided.{Decided}
-use Rattle.factors.specs.declared.scan.Scanned.{Scanned}
-use Rattle.factors.specs.Duval.{FactorList, scan_of, restart, listed_then, list_from, duval}
+use Rattle.factors.specs.Duval.{Scanned, FactorList, scan_of, restart, listed_then, list_from, duval}
 use Rattle.factors.specs.DuvalSteps.{stretch_of, WithinText, Bounded, copies_none, copies_more, restart_here, restart_later}
 use Rattle.factors.specs.DuvalSteps.{scan_bounded, list_end, listed_behind, list_scan}
 use Rattle.factors.specs.DuvalCount.{list_counts}

@@ -8,16 +8,16 @@ use Rattle.words.specs.SuffixTable.{LongestTo}
 use Rattle.words.specs.Compute.Factorization.{factorization_of}
 use Rattle.words.specs.Laws.SpanLyndon.{letters}
 use Rattle.words.specs.Laws.LowestSuffix.{Lowest}
+use Rattle.answer.specs.declared.Accepted.{Accepted}
 use Rattle.answer.specs.Limits.{max_length}
 use Rattle.answer.specs.AfterCall.{written}
 use Rattle.answer.specs.Content.{Kept, From}
 use Rattle.factors.specs.declared.scan.Stretch.{Stretch}
-use Rattle.factors.specs.declared.factorization.Listed.{Listed}
 use Rattle.factors.specs.Duval.{duval}
 use Rattle.factors.specs.DuvalFactorization.{ScanStopped, StoppedWhile}
 
 -- The starts of the factors of x are written, and counted; the comparisons are those of Duval's scan.
-pub record FactorsListed {O : Letters {0, 0} ℕ} (D : Decided O) (x before after : List ℕ) (l : Listed) : Type 0 where
+pub record FactorsListed {O : Letters {0, 0} ℕ} (D : Decided O) (x before after : List ℕ) (l : Accepted) : Type 0 where
   pub counted : l.count ≡ length (factorization_of D x)
   pub compared : l.comparisons ≡ (duval D 0 x).comparisons
   pub content : after ≡ written (factorization_of D x) before

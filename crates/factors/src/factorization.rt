@@ -3,55 +3,50 @@ ghost use Rattle.std.specs.Prelude.{◌≡◌, length};
 ghost use Rattle.words.specs.Decided.{decided_order};
 ghost use Rattle.answer.specs.AfterCall.{content_after};
 ghost use Rattle.answer.specs.Content.{TextRoom};
-ghost use Rattle.letters.specs.Ranks.{rank_row};
+ghost use Rattle.letters.specs.Compared.{order_number};
+ghost use Rattle.letters.specs.Keyed.{row};
 ghost use Rattle.factors.specs.Results.{FactorsListed};
 ghost use Rattle.factors.specs.Answers.{default_factors, factorization_answer, factors_in, factorization_ranked_answer};
 
-use super::scan::{Scanned, stretch_at};
-use answer::Answer;
-use checks::{Check, limits};
+use super::scan::{Stretch, scan};
+use answer::{Accepted, Answer};
+use checks::limits;
+use letters::{Keyed, Order};
 
-// How many factors were listed, and how many letter comparisons that took.
-#[derive(Clone, Copy)]
-pub struct Listed {
-    pub count: u32,
-    pub comparisons: u32,
-}
-
-// Writes the starts of the factors, one a turn.
-fn list_factors(text: &[u8], order: u32, ranks: &[u8; 256], out: &mut [u32]) -> Listed
-    requires { TextRoom text.now out.old }
-    ensures content { FactorsListed (decided_order order) (rank_row ranks.now text.now) out.old out.new result }
+// Writes the starts of the factors, one a turn. A factor lies in the last scan's stretch while that holds one more copy of its period, else in that of
+// a new scan.
+fn list_factors(text: Keyed, order: Order, out: &mut [u32]) -> Accepted
+    requires { TextRoom (row text) out.old }
+    ensures content { FactorsListed (decided_order (order_number order)) (row text.entry) out.old out.new result }
 {
     let mut count: usize = 0;
+    let mut comparisons: u32 = 0;
     let mut start: usize = 0;
-    let mut s = Scanned {
-        period: 1,
-        end: 0,
-        comparisons: 0,
-    };
+    let mut s = Stretch { period: 1, end: 0 };
+    // A while loop: the step is a factor's length, not 1.
     while start < text.len() {
-        s = stretch_at(text, order, ranks, start, s);
+        if s.end < start + s.period {
+            s = scan(text, order, start);
+            comparisons += s.comparisons(start, text.len()) as u32;
+        }
         out[count] = start as u32;
         count += 1;
         start += s.period;
     }
-    let factors = count as u32;
-    Listed {
-        count: factors,
-        comparisons: s.comparisons,
+    Accepted {
+        count: count as u32,
+        comparisons,
     }
 }
 
-// The same, where order 0 is told apart before the loops: the compiler then makes them once without a test of the order.
-fn list_in(text: &[u8], order: u32, ranks: &[u8; 256], out: &mut [u32]) -> Listed
-    requires { TextRoom text.now out.old }
-    ensures content { FactorsListed (decided_order order) (rank_row ranks.now text.now) out.old out.new result }
+// The same, where the order is told apart before the loops: the compiler then makes them for each order, without a test of it.
+fn list_in(text: Keyed, order: Order, out: &mut [u32]) -> Accepted
+    requires { TextRoom (row text) out.old }
+    ensures content { FactorsListed (decided_order (order_number order)) (row text.entry) out.old out.new result }
 {
-    if order == 0 {
-        list_factors(text, 0, ranks, out)
-    } else {
-        list_factors(text, order, ranks, out)
+    match order {
+        Order::Rising => list_factors(text, Order::Rising, out),
+        Order::Falling => list_factors(text, Order::Falling, out),
     }
 }
 
@@ -61,15 +56,14 @@ pub fn factorization_ranked(text: &[u8], order: u32, table: &[u8], out: &mut [u3
     ensures answer { result ≡ factorization_ranked_answer order table.now text.now (length out.old) }
     ensures content { out.new ≡ content_after result (factors_in order table.now text.now) out.old }
 {
-    let c = checks::ranked_text(text.len(), order, table.len(), out.len());
-    match c {
-        Check::Failed { reason, position } => answer::refused(reason, position),
-        Check::Passed => {
-            let mut ranks = [0u8; 256];
-            letters::rank_table(order, table, &mut ranks);
-            let listed = list_in(text, letters::direction(order), &ranks, out);
-            answer::accepted_after(listed.count, listed.comparisons)
-        }
+    if let Err(refusal) = checks::ranked_text(text.len(), order, table.len(), out.len()) {
+        return Answer::from(refusal);
+    }
+    let keys = letters::rank_table(order, table);
+    let text = Keyed { text, keys: &keys };
+    let accepted = list_in(text, letters::direction(order), out);
+    Answer {
+        outcome: Ok(accepted),
     }
 }
 

@@ -4,19 +4,17 @@ ghost use Rattle.factors.specs.LyndonTest.{lyndon_within};
 
 use super::scan::scan;
 use checks::limits;
+use letters::{Keyed, Order};
 
 // Whether `text` is a Lyndon word in rising order, by one scan that only reads; false for a text that
 // is longer than the calls take.
 pub fn is_lyndon(text: &[u8]) -> bool
     ensures answer { result ≡ lyndon_within text.now }
 {
-    if text.len() == 0 {
+    if text.is_empty() || limits::MAX_LENGTH < text.len() {
         return false;
     }
-    if limits::MAX_LENGTH < text.len() {
-        return false;
-    }
-    let ranks = letters::built_in::table(0);
-    let s = scan(text, 0, &ranks, 0, 0);
+    let keys = letters::built_in::table(0);
+    let s = scan(Keyed { text, keys: &keys }, Order::Rising, 0);
     s.period == text.len()
 }

@@ -1,21 +1,19 @@
 -- The reader answers as document 01's table says: each row is given whenever its condition holds and no earlier check has refused,
 -- and never otherwise.
 -- Assumes nothing.
-use Rattle.std.specs.Prelude.{◌≡◌, refl, Bool, true, false, ◌↔◌, List, map, ℕ, ◌≤◌, length, take, drop}
-use Rattle.std.proofs.Common.{ap, subst, arith}
+use Rattle.std.specs.Prelude.{◌≡◌, refl, Bool, true, false, ◌↔◌, List, map, ℕ, ◌≤◌, length, take, drop, IsOkAnd}
+use Rattle.std.proofs.Common.{subst, arith}
 use Rattle.words.specs.ExactlyOne.{ExactlyOne}
-use Rattle.answer.specs.declared.Answer.{Answer}
-use Rattle.answer.specs.declared.Outcome.TheVariants.{Accepted}
 use Rattle.answer.specs.declared.Reason.{Reason}
 use Rattle.answer.specs.declared.Reason.TheVariants.{NoHeader}
-use Rattle.answer.specs.Answers.{accepted_with, refused_for}
+use Rattle.answer.specs.Answers.{accepted_with, accepted_after, refused_for}
 use Rattle.answer.specs.AfterLaws.{written_first, written_rest}
 use Rattle.fasta_record.specs.Bytes.{letter_of, header_mark, starts_with}
 use Rattle.fasta_record.specs.Record.{lines_start, name_end}
 use Rattle.fasta.specs.Reader.{reader_answer, letters_of, letters_after}
 use Rattle.fasta.specs.Rows.{Stands, NameEnds, HeaderEnds, sequence_letters, no_header, in_record}
-use Rattle.fasta.specs.CheckOrder.{Refuses, Accepts, HasOutcome, HasAnswer}
-use Rattle.fasta.specs.Laws.Accepted.{AcceptedInput}
+use Rattle.fasta.specs.CheckOrder.{Refuses, Accepts, HasAnswer}
+use Rattle.fasta.specs.Accepted.{AcceptedInput}
 use Rattle.fasta.proofs.Laws.Accepted.{reader_accepted}
 use Rattle.fasta.specs.Laws.Stands.{StartSays, start_says}
 use Rattle.fasta.specs.Laws.HeaderLine.{header_unique, LinesBegin, lines_begin, record_letters_lem}
@@ -34,8 +32,8 @@ module _ (x : List ℕ) (places : ℕ) where
       (λ e. (subst (HasAnswer x places) e (reader_says x places)).0, λ h. answer_unique x places (reader_says x places) (h, refl))
 
   -- It then counts no comparisons.
-  pub accepted_uncompared : {c q : ℕ} → (reader_answer x places).outcome ≡ Accepted c q → q ≡ 0
-  accepted_uncompared e = (subst (HasOutcome x places) e (reader_says x places)).1
+  pub accepted_uncompared : {c q : ℕ} → reader_answer x places ≡ accepted_after c q → q ≡ 0
+  accepted_uncompared e = (subst (HasAnswer x places) e (reader_says x places)).1
 
   -- The table gives exactly one answer, the reader's.
   pub one_answer : ExactlyOne (HasAnswer x places) (reader_answer x places)
@@ -57,12 +55,14 @@ pub letters_written :
     (x letters : List ℕ) (c : ℕ) → reader_answer x (length letters) ≡ accepted_with c
     → (take c (letters_after x letters) ≡ letters_of x) × (drop c (letters_after x letters) ≡ drop c letters)
 letters_written x letters c e =
-    let a : AcceptedInput x c = reader_accepted x (length letters) c (ap (λ (b : Answer). b.outcome) e) in
-    (written_first _ c c (letters_of x) letters e a.letters, written_rest _ c c (letters_of x) letters e a.letters)
+    let a : (end : ℕ) × AcceptedInput x c end = reader_accepted x (length letters) c e in
+    (written_first _ c c (letters_of x) letters e a.1.letters, written_rest _ c c (letters_of x) letters e a.1.letters)
 
 -- The name of an accepted input ends where document 01 says; `record_name` is what stands between the '>' and that position.
-pub accepted_name : (x : List ℕ) (places c : ℕ) → reader_answer x places ≡ accepted_with c → NameEnds x 0 (name_end x 0)
-accepted_name x places c e = (reader_accepted x places c (ap (λ (b : Answer). b.outcome) e)).name
+pub accepted_name : (x : List ℕ) (places c : ℕ) → reader_answer x places ≡ accepted_with c → IsOkAnd (name_end x 0) (NameEnds x 0)
+accepted_name x places c e =
+    let a : (end : ℕ) × AcceptedInput x c end = reader_accepted x places c e in
+    rw a.1.found a.1.name
 
 -- An accepted input begins with '>'.
 pub accepted_mark : (x : List ℕ) (places c : ℕ) → reader_answer x places ≡ accepted_with c → Stands x 0 header_mark

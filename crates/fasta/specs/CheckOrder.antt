@@ -1,9 +1,9 @@
 -- The answer that document 01's table ("Where each check stands") gives for an input of the reader.
 -- Assumes nothing.
-use Rattle.std.specs.Prelude.{◌≡◌, List, ℕ, ◌<◌, length}
+use Rattle.std.specs.Prelude.{◌≡◌, List, ℕ, ◌<◌, length, Result, Ok, Err}
+use Rattle.answer.specs.declared.Accepted.{Accepted}
 use Rattle.answer.specs.declared.Answer.{Answer}
-use Rattle.answer.specs.declared.Outcome.{Outcome}
-use Rattle.answer.specs.declared.Outcome.TheVariants.{Accepted, Refused}
+use Rattle.answer.specs.declared.Refusal.{Refusal}
 use Rattle.answer.specs.declared.Reason.{Reason}
 use Rattle.answer.specs.declared.Reason.TheVariants.{EmptyText, TextTooLong, UnknownOrder, WrongTable, ShortOutput, ShortWork, ZeroEntry, LongEntry, CrossingSpans}
 use Rattle.answer.specs.declared.Reason.TheVariants.{NoHeader, BadName, UnfitByte, SecondRecord, NoLetters, TooManyLetters, FileTooLong}
@@ -56,9 +56,9 @@ pub record Accepts (x : List ℕ) (places c : ℕ) : Type 0 where
   pub counted : c ≡ length (sequence_letters x header_end)
 
 -- The outcome that document 01's table gives for x; the reader counts no comparisons (document 02, E7).
-abbrev pub HasOutcome : List ℕ → ℕ → Outcome → Type 0
-HasOutcome x places (Accepted c q) = Accepts x places c × (q ≡ 0)
-HasOutcome x places (Refused r p) = Refuses x places r p
+abbrev pub HasOutcome : List ℕ → ℕ → Result Accepted Refusal → Type 0
+HasOutcome x places (Ok accepted) = Accepts x places accepted.count × (accepted.comparisons ≡ 0)
+HasOutcome x places (Err refusal) = Refuses x places refusal.reason refusal.position
 
 -- The answer that document 01's table gives for x.
 abbrev pub HasAnswer : List ℕ → ℕ → Answer → Type 0

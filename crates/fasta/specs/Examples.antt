@@ -1,13 +1,14 @@
 -- An accepted input, one for each refusal, and one in the other case, computed.
 -- Assumes nothing.
-use Rattle.std.specs.Prelude.{◌≡◌, refl, List, [], ◌∷◌, ℕ, zero, suc, ◌≤◌, ◌<◌, get_or, replicate}
+use Rattle.std.specs.Prelude.{◌≡◌, refl, List, [], ◌∷◌, ℕ, zero, suc, ◌≤◌, ◌<◌, get_or, replicate, Ok}
 use Rattle.std.proofs.Common.{inr, arith}
 use Rattle.answer.specs.declared.Reason.TheVariants.{ShortOutput, NoHeader, BadName, UnfitByte, SecondRecord, NoLetters, TooManyLetters, FileTooLong}
 use Rattle.answer.specs.Answers.{accepted_with, refused_for}
 use Rattle.answer.specs.Limits.{max_letters}
 use Rattle.fasta_record.specs.Bytes.{header_mark, line_end}
 use Rattle.fasta.specs.Case.{UpToCase, lowered, raised, CaseChanged}
-use Rattle.fasta.specs.Reader.{reader_answer, letters_of, name_end_after}
+use Rattle.fasta_record.specs.Record.{name_end}
+use Rattle.fasta.specs.Reader.{reader_answer, letters_of}
 
 -- `>m`, LF, `AC`, CR, LF, LF, `gt`: four letters.
 four_letters : reader_answer (62 ∷ 109 ∷ 10 ∷ 65 ∷ 67 ∷ 13 ∷ 10 ∷ 10 ∷ 103 ∷ 116 ∷ []) max_letters ≡ accepted_with 4
@@ -22,8 +23,7 @@ ends_of_ranges : letters_of (62 ∷ 109 ∷ 10 ∷ 65 ∷ 90 ∷ 97 ∷ 122 ∷ 
 ends_of_ranges = refl
 
 -- The name ends at 2.
-name_end_lem :
-    let x : List ℕ = 62 ∷ 109 ∷ 10 ∷ 65 ∷ 67 ∷ 13 ∷ 10 ∷ 10 ∷ 103 ∷ 116 ∷ [] in name_end_after (reader_answer x max_letters) x ≡ 2
+name_end_lem : name_end (62 ∷ 109 ∷ 10 ∷ 65 ∷ 67 ∷ 13 ∷ 10 ∷ 10 ∷ 103 ∷ 116 ∷ []) 0 ≡ Ok 2
 name_end_lem = refl
 
 -- A buffer of 4,095 places.

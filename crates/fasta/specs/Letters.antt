@@ -1,6 +1,6 @@
 -- The letters of the sequence lines of a FASTA record, as they are handed on (document 02, E2).
 -- Assumes nothing.
-use Rattle.std.specs.Prelude.{List, [], ◌∷◌, ℕ, get_or}
+use Rattle.std.specs.Prelude.{List, [], ◌∷◌, ℕ}
 use Rattle.fasta_record.specs.declared.bytes.Kind.{Kind}
 use Rattle.fasta_record.specs.declared.bytes.Kind.TheVariants.{Letter, LineEnd, CarriageReturn, HeaderMark, Unfit}
 use Rattle.fasta_record.specs.Bytes.{kind_of, letter_of}
@@ -17,7 +17,3 @@ letter_before Unfit b l = l
 abbrev pub letters_in : List ℕ → List ℕ
 letters_in [] = []
 letters_in (b ∷ s) = letter_before (kind_of b) b (letters_in s)
-
--- What is handed on for position p of x, if a letter stands there.
-abbrev pub letter_at : List ℕ → ℕ → List ℕ
-letter_at x p = letter_before (kind_of (get_or x p 0)) (get_or x p 0) []

@@ -2,6 +2,7 @@ pub mod Letters
 pub mod Reader
 pub mod Classes
 pub mod Rows
+pub mod Accepted
 pub mod Case
 pub mod CheckOrder
 pub mod Examples

@@ -4,93 +4,78 @@
 
 mod letters;
 
-ghost use Rattle.std.specs.Prelude.{◌≡◌, ◌≤◌, length};
-ghost use Rattle.answer.specs.Answers.{refused_for};
+ghost use Rattle.std.specs.Prelude.{◌≡◌, ◌≤◌, length, IfOk};
 ghost use Rattle.answer.specs.AfterCall.{content_after};
-ghost use Rattle.answer.specs.Limits.{max_input, max_letters};
-ghost use Rattle.fasta_record.specs.Record.{record_ending};
-ghost use Rattle.fasta.specs.Reader.{ending_position, answer_for, reader_answer, letters_of, name_end_after};
+ghost use Rattle.answer.specs.Limits.{max_input};
+ghost use Rattle.fasta.specs.Accepted.{AcceptedInput};
+ghost use Rattle.fasta.specs.Reader.{only_record, answer_of, reader_answer, letters_of};
 
 use crate::letters::write_letters;
-use answer::{Answer, Outcome, Reason, accepted, refused};
-use checks::Check;
-use fasta_record::lines::{Ending, after_line};
-use fasta_record::record_ending;
+use answer::{Accepted, Answer, Reason, Refusal};
+use fasta_record::lines::{Lines, Stop, after_line};
+use fasta_record::{Fault, Record, record_at};
 
-// What the reader answers, and the `end` of the name, past its last byte: 0 where it refuses.
-#[derive(Clone, Copy)]
-pub struct NamedAnswer {
-    pub answer: Answer,
+// What is told of an accepted input, and the `end` of its name, past the last byte.
+#[derive(Clone, Copy, Debug, PartialEq, Eq)]
+pub struct Named {
+    pub accepted: Accepted,
     pub end: usize,
 }
 
-// A refusal at a position of an input of fitting size.
-fn refused_at(reason: Reason, position: usize) -> Answer
-    requires { position ≤ max_input }
-    ensures answer { result ≡ refused_for reason position }
+// The refusal of an input of fitting size for a fault in it.
+fn refusal_for(fault: Fault) -> Refusal
+    requires { fault.position ≤ max_input }
+    ensures reason { result.reason ≡ fault.reason }
+    ensures position { result.position ≡ fault.position }
 {
-    refused(reason, position as u32)
-}
-
-// The answer for an input of fitting size that is one record, by how it ends.
-fn answer_for(ending: Ending) -> Answer
-    requires { ending_position ending ≤ max_input }
-    ensures answer { result ≡ answer_for ending }
-{
-    match ending {
-        Ending::RefusedAt { reason, position } => refused_at(reason, position),
-        Ending::NextRecord { count: _, position } => refused_at(Reason::SecondRecord, position),
-        Ending::Finished { count, position } => {
-            if count == 0 {
-                refused_at(Reason::NoLetters, position)
-            } else {
-                accepted(count)
-            }
-        }
+    Refusal {
+        reason: fault.reason,
+        position: fault.position as u32,
     }
 }
 
-// Reads an input of fitting size into a buffer of fitting length: a pass that checks and stores
-// nothing, then one that stores the letters.
-fn read_record(input: &[u8], letters: &mut [u8]) -> NamedAnswer
-    requires input_fits { length input.now ≤ max_input }
-    requires letters_fit { max_letters ≤ length letters.old }
-    ensures answer { result.answer ≡ answer_for (record_ending input.now 0) }
-    ensures content { letters.new ≡ content_after result.answer (letters_of input.now) letters.old }
-    ensures end { result.end ≡ name_end_after result.answer input.now }
+// The record of an input that has no other: refusals 12 and 13 come after those of the record.
+fn only_record(input: &[u8]) -> Result<Record, Fault>
+    ensures found { result ≡ only_record input.now }
 {
-    let found = record_ending(input, 0);
-    let ending = found.ending;
-    let answer = answer_for(ending);
-    let outcome = answer.outcome;
-    let Outcome::Accepted {
-        count: _,
-        comparisons: _,
-    } = outcome
-    else {
-        return NamedAnswer { answer, end: 0 };
+    let record = record_at(input, 0)?;
+    let Lines {
+        count,
+        stop,
+        position,
+    } = record.lines;
+    match stop {
+        Stop::NextRecord => Err(Fault {
+            reason: Reason::SecondRecord,
+            position,
+        }),
+        Stop::InputEnd if count == 0 => Err(Fault {
+            reason: Reason::NoLetters,
+            position,
+        }),
+        Stop::InputEnd => Ok(record),
+    }
+}
+
+// Reads the letters of a FASTA input, as capitals, into `letters`, and tells where its name ends. A refusal changes nothing: one pass checks, and
+// another stores the letters.
+#[tactic(auto, using(crate::proofs::Laws::Positions::fault_within))]
+pub fn read_named(input: &[u8], letters: &mut [u8]) -> Result<Named, Refusal>
+    ensures answer { answer_of result ≡ reader_answer input.now (length letters.old) }
+    ensures content { letters.new ≡ content_after (answer_of result) (letters_of input.now) letters.old }
+    ensures accepted { IfOk result (λ named. AcceptedInput input.now named.accepted.count named.end) }
+{
+    checks::reader(input.len(), letters.len())?;
+    let record = only_record(input).map_err(refusal_for)?;
+    write_letters(&input[after_line(input, 0)..], letters);
+    let accepted = Accepted {
+        count: record.lines.count,
+        comparisons: 0,
     };
-    write_letters(input, after_line(input, 0), letters);
-    NamedAnswer {
-        answer,
-        end: found.end,
-    }
-}
-
-// Reads the letters of a FASTA input, as capitals, into `letters`, and tells where its name ends. A refusal changes nothing.
-pub fn read_named(input: &[u8], letters: &mut [u8]) -> NamedAnswer
-    ensures answer { result.answer ≡ reader_answer input.now (length letters.old) }
-    ensures content { letters.new ≡ content_after result.answer (letters_of input.now) letters.old }
-    ensures end { result.end ≡ name_end_after result.answer input.now }
-{
-    let c = checks::reader(input.len(), letters.len());
-    match c {
-        Check::Failed { reason, position } => NamedAnswer {
-            answer: refused(reason, position),
-            end: 0,
-        },
-        Check::Passed => read_record(input, letters),
-    }
+    Ok(Named {
+        accepted,
+        end: record.name_end,
+    })
 }
 
 // Reads the letters of a FASTA input, as capitals, into `letters`. A refusal changes nothing.
@@ -98,6 +83,6 @@ pub fn read(input: &[u8], letters: &mut [u8]) -> Answer
     ensures answer { result ≡ reader_answer input.now (length letters.old) }
     ensures content { letters.new ≡ content_after result (letters_of input.now) letters.old }
 {
-    let named = read_named(input, letters);
-    named.answer
+    let outcome = read_named(input, letters).map(|named| named.accepted);
+    Answer { outcome }
 }

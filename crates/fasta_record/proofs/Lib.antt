@@ -1,4 +1,1 @@
-pub mod Sorting
-pub mod Naming
 pub mod Reading
-pub mod Positions

@@ -1,48 +1,57 @@
--- The sequence lines at a position of the input, by the byte that stands there.
+-- Where the first line of a part of the input ends.
 -- Assumes nothing.
-use mathlib.Core.Path.{◌≡◌, ap}
-use mathlib.Core.Bool.{Bool}
-use mathlib.Core.List.{List}
-use Prim.Native.Nat.{ℕ, suc, ◌+◌, ◌≤◌, ◌<◌}
-use native.Mathlib.Numerals.{add-one}
-use borrow.Author.Tests.{eq-eqb, ne_eqb}
-use lib.ListN.{length, get_or, drop, drop_of_length-le}
-use lib.Seq.{drop-cons}
-use Rattle.fasta_record.specs.declared.lines.Ending.{Ending}
-use Rattle.fasta_record.specs.declared.lines.Ending.TheVariants.{Finished}
-use Rattle.fasta_record.specs.declared.lines.Step.{Step}
-use Rattle.fasta_record.specs.declared.lines.Step.TheVariants.{On, Off}
-use Rattle.fasta_record.specs.Bytes.{kind_of, line_end}
-use Rattle.fasta_record.specs.Lines.{after_line, step_for, lines_from}
+use Rattle.std.proofs.Common.{◌≡◌, refl, Bool, true, false, cond, List, [], ◌∷◌, ℕ, suc, ◌+◌, ◌≤◌, length, drop, nat_eq, Option, Some, None, ◌∙◌, arith, length-drop}
+use Rattle.std.proofs.Math.Decide.{dec_le}
+use Rattle.std.proofs.Common.{drop_of_length-le}
+use Rattle.std.specs.List.{position, position_from}
+use Rattle.std.proofs.lemmas.Iterator.Adapters.{position_from-zero}
+use Rattle.fasta_record.specs.Bytes.{line_end, starts_with}
+use Rattle.fasta_record.specs.Lines.{after_line}
 
--- No byte of the line is left.
-pub line_over : (x : List ℕ) (at : ℕ) → length x ≤ at → after_line at (drop at x) ≡ at
-line_over x at h = rw (drop_of_length-le x h)
+-- Whether a byte ends a line.
+abbrev ends : ℕ → Bool
+ends b = nat_eq b line_end
 
-pub lines_over : (x : List ℕ) (at : ℕ) (inside : Bool) (count : ℕ) → length x ≤ at → lines_from at inside count (drop at x) ≡ Finished count at
-lines_over x at inside count h = rw (drop_of_length-le x h)
+-- Where a line ends whose bytes from i places behind p on are s, where its first LF is found.
+abbrev reached : ℕ → ℕ → List ℕ → Option ℕ → ℕ
+reached p i s (Some k) = p + k + 1
+reached p i s None = p + i + length s
 
-module _ (x : List ℕ) (at : ℕ) (h : at < length x) where
-  pub line_ends : get_or x at 0 ≡ line_end → after_line at (drop at x) ≡ at + 1
-  line_ends e = rw (drop-cons x at 0 h, eq-eqb (get_or x at 0) line_end e, add-one at)
+reached-next : (p i b : ℕ) (s : List ℕ) (o : Option ℕ) → reached p (i + 1) s o ≡ reached p i (b ∷ s) o
+reached-next p i b s (Some k) = refl
+reached-next p i b s None = omega arith
 
-  pub line_goes_on : (get_or x at 0 ≡ line_end → ⊥) → after_line at (drop at x) ≡ after_line (at + 1) (drop (at + 1) x)
-  line_goes_on n = rw (drop-cons x at 0 h, ne_eqb (get_or x at 0) line_end n, add-one at)
+line_from : (p i : ℕ) (s : List ℕ) → after_line (p + i) s ≡ reached p i s (position_from ends i s)
+line_from p i [] = omega arith
+line_from p i (b ∷ s) = go (ends b) (line_from p (i + 1) s)
+  where
+    go : (t : Bool) → after_line (p + (i + 1)) s ≡ reached p (i + 1) s (position_from ends (i + 1) s) →
+        cond t (suc (p + i)) (after_line (suc (p + i)) s) ≡ reached p i (b ∷ s) (cond t (Some i) (position_from ends (i + 1) s))
+    go true e = omega arith
+    go false e =
+        let q : suc (p + i) ≡ p + (i + 1) = omega arith in
+        rw q (e ∙ reached-next p i b s (position_from ends (i + 1) s))
 
-  -- The lines go by the step at their position.
-  lines_at :
-      (inside : Bool) (count : ℕ) {k : Step} → step_for (kind_of (get_or x at 0)) at inside count (drop (suc at) x) ≡ k
-      → lines_from at inside count (drop at x) ≡ elim k [ On i c ↦ lines_from (suc at) i c (drop (suc at) x) | Off e ↦ e ]
-  lines_at inside count e =
-      rw (drop-cons x at 0 h)
-      (ap (λ (j : Step). elim j [ On i c ↦ lines_from (suc at) i c (drop (suc at) x) | Off e ↦ e ]) e)
+-- The line ends past its first LF, or where s does.
+pub line_reached : (p : ℕ) (s : List ℕ) {o : Option ℕ} → o ≡ position ends s → after_line p s ≡ reached p 0 s o
+line_reached p s e =
+    let q : p + 0 ≡ p = omega arith in
+    rw (e ∙ position_from-zero ends s) (rw q at (line_from p 0 s))
 
-  pub lines_on :
-      (inside : Bool) (count : ℕ) {i : Bool} {c : ℕ} → step_for (kind_of (get_or x at 0)) at inside count (drop (at + 1) x) ≡ On i c
-      → lines_from at inside count (drop at x) ≡ lines_from (at + 1) i c (drop (at + 1) x)
-  lines_on inside count e = rw (add-one at) (lines_at inside count (rw (add-one at) at e))
+line_most : (p : ℕ) (s : List ℕ) → after_line p s ≤ p + length s
+line_most p [] = omega arith
+line_most p (b ∷ s) = go (ends b) (line_most (suc p) s)
+  where
+    go : (t : Bool) → after_line (suc p) s ≤ suc p + length s → cond t (suc p) (after_line (suc p) s) ≤ p + suc (length s)
+    go true h = omega arith
+    go false h = omega arith
 
-  pub lines_off :
-      (inside : Bool) (count : ℕ) {e : Ending} → step_for (kind_of (get_or x at 0)) at inside count (drop (at + 1) x) ≡ Off e
-      → lines_from at inside count (drop at x) ≡ e
-  lines_off inside count e = lines_at inside count (rw (add-one at) at e)
+-- A line with a byte ends inside the input.
+pub line_within : (p b : ℕ) (x : List ℕ) → starts_with b (drop p x) ≡ true → after_line p (drop p x) ≤ length x
+line_within p b x h = go (dec_le (length x) p)
+  where
+    go : Dec (length x ≤ p) → after_line p (drop p x) ≤ length x
+    go (yes l) =
+        let z : ◌≡◌ {A = Bool} false true = rw (drop_of_length-le x l) at h in
+        absurd cc
+    go (no n) = omega (arith, line_most p (drop p x), length-drop p x)

@@ -1,4 +1,5 @@
 pub mod Bytes
+pub mod Fault
 pub mod Name
 pub mod Lines
 pub mod Record

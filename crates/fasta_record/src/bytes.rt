@@ -2,14 +2,14 @@
 ghost use Rattle.std.specs.Prelude.{◌≡◌, drop};
 ghost use Rattle.fasta_record.specs.Bytes.{kind_of, letter_of, name_byte_of, starts_with};
 
-// '>'.
-pub const HEADER_MARK: u8 = 62;
+// The byte that a header line begins with.
+pub const HEADER_MARK: u8 = b'>';
 
-// LF.
-pub const LINE_END: u8 = 10;
+// The byte that ends a line.
+pub const LINE_END: u8 = b'\n';
 
 // What a byte of the sequence lines is.
-#[derive(Clone, Copy)]
+#[derive(Clone, Copy, Debug, PartialEq, Eq)]
 pub enum Kind {
     // A to Z or a to z.
     Letter,
@@ -24,7 +24,7 @@ pub enum Kind {
 }
 
 // What a byte after '>' is to the name.
-#[derive(Clone, Copy)]
+#[derive(Clone, Copy, Debug, PartialEq, Eq)]
 pub enum NameByte {
     // 33 to 126: a byte of the name.
     Part,
@@ -34,27 +34,31 @@ pub enum NameByte {
     Foreign,
 }
 
-// What `byte` is in the sequence lines.
-pub fn kind_of(byte: u8) -> Kind
-    ensures result { result ≡ kind_of byte }
-{
-    match byte {
-        65..=90 | 97..=122 => Kind::Letter,
-        10 => Kind::LineEnd,
-        13 => Kind::CarriageReturn,
-        62 => Kind::HeaderMark,
-        _ => Kind::Unfit,
+// What a byte is in the sequence lines.
+impl From<u8> for Kind {
+    ghost from_gives = { λ byte kind. kind ≡ kind_of byte };
+
+    fn from(byte: u8) -> Kind {
+        match byte {
+            b'A'..=b'Z' | b'a'..=b'z' => Kind::Letter,
+            b'\n' => Kind::LineEnd,
+            b'\r' => Kind::CarriageReturn,
+            b'>' => Kind::HeaderMark,
+            _ => Kind::Unfit,
+        }
     }
 }
 
-// What `byte` is in a name.
-pub(crate) fn name_byte_of(byte: u8) -> NameByte
-    ensures result { result ≡ name_byte_of byte }
-{
-    match byte {
-        32 | 9 | 13 | 10 => NameByte::Past,
-        33..=126 => NameByte::Part,
-        _ => NameByte::Foreign,
+// What a byte is in a name.
+impl From<u8> for NameByte {
+    ghost from_gives = { λ byte sort. sort ≡ name_byte_of byte };
+
+    fn from(byte: u8) -> NameByte {
+        match byte {
+            b' ' | b'\t' | b'\r' | b'\n' => NameByte::Past,
+            33..=126 => NameByte::Part,
+            _ => NameByte::Foreign,
+        }
     }
 }
 
@@ -62,19 +66,12 @@ pub(crate) fn name_byte_of(byte: u8) -> NameByte
 pub(crate) fn stands_at(byte: u8, input: &[u8], at: usize) -> bool
     ensures result { result ≡ starts_with byte (drop at input.now) }
 {
-    if at < input.len() {
-        input[at] == byte
-    } else {
-        false
-    }
+    input.get(at) == Some(&byte)
 }
 
 // What is handed on for the letter `byte`: a to z become A to Z, any other byte stays.
 pub fn letter_of(byte: u8) -> u8
     ensures result { result ≡ letter_of byte }
 {
-    match byte {
-        97..=122 => byte - 32,
-        _ => byte,
-    }
+    byte.to_ascii_uppercase()
 }

@@ -7,47 +7,40 @@ pub mod lines;
 pub mod name;
 
 ghost use Rattle.std.specs.Prelude.{◌≡◌};
-ghost use Rattle.fasta_record.specs.Record.{record_ending, name_end};
+ghost use Rattle.fasta_record.specs.Record.{record_at};
 
 use crate::bytes::{HEADER_MARK, stands_at};
-use crate::lines::{Ending, after_line, lines_from};
-use crate::name::{Name, name_from};
+use crate::lines::{Lines, after_line, lines_from};
+use crate::name::name_from;
 use answer::Reason;
 
-// How a record ends, and the `end` of its name: 0 where none is found.
-#[derive(Clone, Copy)]
-pub struct NamedEnding {
-    pub ending: Ending,
-    pub end: usize,
+// Why a record is refused, and at which position of the input.
+#[derive(Clone, Copy, Debug, PartialEq, Eq)]
+pub struct Fault {
+    pub reason: Reason,
+    pub position: usize,
 }
 
-// How the record ends that starts at `from`, and where its name does.
-pub fn record_ending(input: &[u8], from: usize) -> NamedEnding
-    ensures ending { result.ending ≡ record_ending input.now from }
-    ensures end { result.end ≡ name_end input.now from }
+// A record: where its name ends, past the last byte, and its sequence lines.
+#[derive(Clone, Copy, Debug, PartialEq, Eq)]
+pub struct Record {
+    pub name_end: usize,
+    pub lines: Lines,
+}
+
+// The record that starts at `from`.
+#[tactic(auto, using(crate::proofs::Reading::line_within))]
+pub fn record_at(input: &[u8], from: usize) -> Result<Record, Fault>
+    ensures found { result ≡ record_at input.now from }
 {
-    if stands_at(HEADER_MARK, input, from) {
-        let name = name_from(input, from + 1);
-        match name {
-            Name::Named { end } => NamedEnding {
-                ending: lines_from(input, after_line(input, from)),
-                end,
-            },
-            Name::Misnamed { position } => NamedEnding {
-                ending: Ending::RefusedAt {
-                    reason: Reason::BadName,
-                    position,
-                },
-                end: 0,
-            },
-        }
-    } else {
-        NamedEnding {
-            ending: Ending::RefusedAt {
-                reason: Reason::NoHeader,
-                position: from,
-            },
-            end: 0,
-        }
+    if !stands_at(HEADER_MARK, input, from) {
+        return Err(Fault {
+            reason: Reason::NoHeader,
+            position: from,
+        });
     }
+    let name_end = name_from(&input[from + 1..], from + 1)?;
+    let start = after_line(input, from);
+    let lines = lines_from(&input[start..], start)?;
+    Ok(Record { name_end, lines })
 }

@@ -1,130 +1,96 @@
 // The sequence lines of a record. Contracts cite `specs/Lines.antt`. Nothing is assumed.
-ghost use Rattle.std.specs.Prelude.{◌≡◌, false, ◌+◌, ◌<◌, length, get_or, drop};
-ghost use Rattle.fasta_record.specs.Bytes.{kind_of};
-ghost use Rattle.fasta_record.specs.Lines.{after_line, letter_step, step_for, lines_from};
+ghost use Rattle.std.specs.Prelude.{◌≡◌, ◌==◌, false, ◌+◌, ◌^◌, ◌<◌, length, drop};
+ghost use Rattle.std.specs.List.{position};
+ghost use Rattle.fasta_record.specs.Bytes.{line_end};
+ghost use Rattle.fasta_record.specs.Lines.{after_line, lines_from};
 
-use crate::bytes::{Kind, LINE_END, kind_of, stands_at};
+use crate::Fault;
+use crate::bytes::{Kind, LINE_END, stands_at};
 use answer::Reason;
 use checks::limits::max_letters;
 
-// How a record ends.
-#[derive(Clone, Copy)]
-pub enum Ending {
-    // A byte that a check refuses.
-    RefusedAt { reason: Reason, position: usize },
-    // '>' at a line's start, after `count` letters.
-    NextRecord { count: u32, position: usize },
-    // The end of the input, after `count` letters.
-    Finished { count: u32, position: usize },
+// What the sequence lines of a record stop at.
+#[derive(Clone, Copy, Debug, PartialEq, Eq)]
+pub enum Stop {
+    // The '>' of the next record.
+    NextRecord,
+    // The end of the input.
+    InputEnd,
 }
 
-// What a byte of the sequence lines does.
-#[derive(Clone, Copy)]
-pub enum Step {
-    // Reading goes on, inside a line or at the start of one, with `count` letters.
-    On { inside: bool, count: u32 },
-    // The record ends.
-    Off { ending: Ending },
+// The sequence lines of a record: how many letters they have, and what they stop at, and where.
+#[derive(Clone, Copy, Debug, PartialEq, Eq)]
+pub struct Lines {
+    pub count: u32,
+    pub stop: Stop,
+    pub position: usize,
+}
+
+// Where the LF stands in `rest` that ends its first line.
+fn line_end_in(rest: &[u8]) -> Option<usize>
+    ensures found { result ≡ position (λ b. b == line_end) rest.now }
+{
+    rest.iter().position(|&byte| byte == LINE_END)
 }
 
 // Where the line ends whose bytes from `from` on are left: past its LF, or the input's end; `from` where nothing is left.
 pub fn after_line(input: &[u8], from: usize) -> usize
     ensures result { result ≡ after_line from (drop from input.now) }
 {
-    let mut at = from;
-    while at < input.len() {
-        if input[at] == LINE_END {
-            return at + 1;
-        }
-        at += 1;
-    }
-    at
-}
-
-// What a letter at `position` does after `count` letters.
-fn letter_step(position: usize, count: u32) -> Step
-    ensures result { result ≡ letter_step position count }
-{
-    if (count as usize) < max_letters() {
-        Step::On {
-            inside: true,
-            count: count + 1,
-        }
-    } else {
-        Step::Off {
-            ending: Ending::RefusedAt {
-                reason: Reason::TooManyLetters,
-                position,
-            },
-        }
-    }
-}
-
-// What the byte at `at` does, inside a line or at the start of one, after `count` letters.
-fn step_at(input: &[u8], at: usize, inside: bool, count: u32) -> Step
-    requires { at < length input.now }
-    ensures result { result ≡ step_for (kind_of (get_or input.now at 0)) at inside count (drop (at + 1) input.now) }
-{
-    let kind = kind_of(input[at]);
-    let unfit = Step::Off {
-        ending: Ending::RefusedAt {
-            reason: Reason::UnfitByte,
-            position: at,
-        },
+    let Some(rest) = input.get(from..) else {
+        return from;
     };
-    match kind {
-        Kind::Letter => letter_step(at, count),
-        Kind::LineEnd => Step::On {
-            inside: false,
-            count,
-        },
-        Kind::CarriageReturn => {
-            let before_line_end = Step::On {
-                inside: true,
-                count,
-            };
-            if stands_at(LINE_END, input, at + 1) {
-                before_line_end
-            } else {
-                unfit
-            }
-        }
-        Kind::HeaderMark => {
-            let next_record = Step::Off {
-                ending: Ending::NextRecord {
-                    count,
-                    position: at,
-                },
-            };
-            if inside { unfit } else { next_record }
-        }
-        Kind::Unfit => unfit,
+    match line_end_in(rest) {
+        Some(index) => from + index + 1,
+        None => input.len(),
     }
 }
 
-// How the sequence lines end that start at `from`.
-pub(crate) fn lines_from(input: &[u8], from: usize) -> Ending
-    ensures result { result ≡ lines_from from false 0 (drop from input.now) }
+// The sequence lines that `rest` holds, which starts at position `from` of the input.
+pub(crate) fn lines_from(rest: &[u8], from: usize) -> Result<Lines, Fault>
+    requires { from + length rest.now < 2 ^ 64 }
+    ensures result { result ≡ lines_from from false 0 rest.now }
 {
-    let mut at = from;
     let mut inside = false;
-    let mut count: u32 = 0;
-    while at < input.len() {
-        let step = step_at(input, at, inside, count);
-        match step {
-            Step::On {
-                inside: next_inside,
-                count: next_count,
-            } => {
-                inside = next_inside;
-                count = next_count;
+    let mut count = 0;
+    for (index, &byte) in rest.iter().enumerate() {
+        let position = from + index;
+        let unfit = Err(Fault {
+            reason: Reason::UnfitByte,
+            position,
+        });
+        match Kind::from(byte) {
+            Kind::Letter => {
+                if count as usize >= max_letters() {
+                    return Err(Fault {
+                        reason: Reason::TooManyLetters,
+                        position,
+                    });
+                }
+                inside = true;
+                count += 1;
             }
-            Step::Off { ending } => return ending,
+            Kind::LineEnd => inside = false,
+            Kind::CarriageReturn => {
+                if !stands_at(LINE_END, rest, index + 1) {
+                    return unfit;
+                }
+                inside = true;
+            }
+            Kind::HeaderMark => {
+                let next_record = Ok(Lines {
+                    count,
+                    stop: Stop::NextRecord,
+                    position,
+                });
+                return if inside { unfit } else { next_record };
+            }
+            Kind::Unfit => return unfit,
         }
-        at += 1;
     }
-    Ending::Finished {
+    Ok(Lines {
         count,
-        position: at,
-    }
+        stop: Stop::InputEnd,
+        position: from + rest.len(),
+    })
 }

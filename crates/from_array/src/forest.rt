@@ -10,8 +10,7 @@ ghost use Rattle.answer.specs.Content.{Holds};
 ghost use Rattle.from_array.specs.Marked.{ArrayRoom};
 
 use super::mark::mark;
-use answer::{Answer, Outcome};
-use checks::Check;
+use answer::Answer;
 
 // Every position has itself.
 fn write_own(first: &mut [u32], n: usize)
@@ -19,10 +18,8 @@ fn write_own(first: &mut [u32], n: usize)
     requires n_in_bounds { n ≤ length first.old }
     ensures content { Holds (λ j. j) n first.old first.new }
 {
-    let mut k = 0;
-    while k < n {
+    for k in 0..n {
         first[k] = k as u32;
-        k += 1;
     }
 }
 
@@ -32,10 +29,8 @@ fn write_first(array: &[u32], first: &mut [u32])
     ensures content { Holds (first_for array.now) (length array.now) first.old first.new }
 {
     write_own(first, array.len());
-    let mut i = 0;
-    while i < array.len() {
+    for i in 0..array.len() {
         mark(array, first, i, i as u32);
-        i += 1;
     }
 }
 
@@ -61,10 +56,8 @@ fn write_past(array: &[u32], first: &[u32], past: &mut [u32])
     requires first_holds { (j : ℕ) → j < length array.now → get_or first.now j 0 ≡ first_for array.now j }
     ensures content { Holds (past_for array.now) (length array.now) past.old past.new }
 {
-    let mut j = 0;
-    while j < array.len() {
+    for j in 0..array.len() {
         past[j] = past_at(array, first[j], j);
-        j += 1;
     }
 }
 
@@ -75,23 +68,13 @@ pub fn right_forest(array: &[u32], first: &mut [u32], past: &mut [u32]) -> Answe
     ensures starts { first.new ≡ content_after result (forest_first array.now) first.old }
     ensures ends { past.new ≡ content_after result (forest_past array.now) past.old }
 {
-    let n = array.len();
-    let c = checks::forest(n, first.len(), past.len());
-    match c {
-        Check::Failed { reason, position } => answer::refused(reason, position),
-        Check::Passed => {
-            let verdict = valid_array::check(array);
-            let outcome = verdict.outcome;
-            let Outcome::Accepted {
-                count,
-                comparisons: _,
-            } = outcome
-            else {
-                return verdict;
-            };
-            write_first(array, first);
-            write_past(array, first, past);
-            answer::accepted(count)
-        }
+    if let Err(refusal) = checks::forest(array.len(), first.len(), past.len()) {
+        return Answer::from(refusal);
     }
+    let answer = valid_array::check(array);
+    if let Ok(_) = answer.outcome {
+        write_first(array, first);
+        write_past(array, first, past);
+    }
+    answer
 }

@@ -12,6 +12,7 @@ pub(crate) fn mark(array: &[u32], out: &mut [u32], i: usize, value: u32)
 {
     let end = i + letters::wide(array[i]);
     let mut k = i + 1;
+    // A while loop: its step is the entry read.
     while k < end {
         out[k] = value;
         k += letters::wide(array[k]);

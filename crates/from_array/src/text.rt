@@ -8,19 +8,14 @@ ghost use Rattle.answer.specs.Content.{Holds};
 ghost use Rattle.from_array.specs.Marked.{ArrayRoom};
 
 use super::mark::mark;
-use answer::{Answer, Outcome};
-use checks::Check;
+use answer::Answer;
 
 // Every position has 0: no span is counted yet.
 fn write_zeros(text: &mut [u32], n: usize)
     requires { n ≤ length text.old }
     ensures content { Holds (λ j. 0) n text.old text.new }
 {
-    let mut j = 0;
-    while j < n {
-        text[j] = 0;
-        j += 1;
-    }
+    text[..n].fill(0);
 }
 
 // The letters. Until a position's turn comes, its place holds the number of earlier positions whose
@@ -31,13 +26,11 @@ fn write_letters(array: &[u32], text: &mut [u32])
 {
     let n = array.len();
     write_zeros(text, n);
-    let mut i = 0;
-    while i < n {
+    for i in 0..n {
         let depth = text[i];
         mark(array, text, i, depth + 1);
         let left = n - (i + letters::wide(array[i]));
         text[i] = depth + (left as u32);
-        i += 1;
     }
 }
 
@@ -46,22 +39,12 @@ pub fn reconstruct(array: &[u32], text: &mut [u32]) -> Answer
     ensures answer { result ≡ reconstruct_answer array.now (length text.old) }
     ensures content { text.new ≡ content_after result (text_for array.now) text.old }
 {
-    let n = array.len();
-    let c = checks::text(n, text.len());
-    match c {
-        Check::Failed { reason, position } => answer::refused(reason, position),
-        Check::Passed => {
-            let verdict = valid_array::check(array);
-            let outcome = verdict.outcome;
-            let Outcome::Accepted {
-                count,
-                comparisons: _,
-            } = outcome
-            else {
-                return verdict;
-            };
-            write_letters(array, text);
-            answer::accepted(count)
-        }
+    if let Err(refusal) = checks::text(array.len(), text.len()) {
+        return Answer::from(refusal);
     }
+    let answer = valid_array::check(array);
+    if let Ok(_) = answer.outcome {
+        write_letters(array, text);
+    }
+    answer
 }

@@ -10,23 +10,6 @@ ghost use Rattle.from_array.specs.Theorems.{text_after, right_first_after, right
 
 use check::expect;
 
-// Whether both hold the same numbers.
-fn same(a: &[u32], b: &[u32]) -> bool
-    ensures result { (result ≡ true) ↔ (a.now ≡ b.now) }
-{
-    if a.len() != b.len() {
-        return false;
-    }
-    let mut i = 0;
-    while i < a.len() {
-        if a[i] != b[i] {
-            return false;
-        }
-        i += 1;
-    }
-    true
-}
-
 // `reconstruct` answers with the number and value, and leaves `wanted` in the text buffer.
 fn expect_text(array: &[u32], text: &mut [u32], said: u32, with: u32, wanted: &[u32])
     requires number_said { number (reconstruct_answer array.now (length text.old)) ≡ said }
@@ -36,7 +19,7 @@ fn expect_text(array: &[u32], text: &mut [u32], said: u32, with: u32, wanted: &[
     let answer = from_array::reconstruct(array, text);
     expect(answer::number(answer) == said);
     expect(answer::value(answer) == with);
-    expect(same(text, wanted));
+    expect(&*text == wanted);
 }
 
 // `right_forest` answers with the number and value, and leaves what is wanted in FIRST and PAST.
@@ -57,8 +40,8 @@ fn expect_forest(
     let answer = from_array::right_forest(array, first, past);
     expect(answer::number(answer) == said);
     expect(answer::value(answer) == with);
-    expect(same(first, wanted_first));
-    expect(same(past, wanted_past));
+    expect(&*first == wanted_first);
+    expect(&*past == wanted_past);
 }
 
 // K8: the array of `aabb`.

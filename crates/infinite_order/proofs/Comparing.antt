@@ -4,23 +4,27 @@ use mathlib.Core.Path.{◌≡◌, refl, sym, ap, subst, ◌∙◌}
 use mathlib.Core.List.{List}
 use Prim.Native.Nat.{ℕ, zero, suc, ◌+◌, ◌%◌, ◌<◌, ◌≤◌}
 use native.Mathlib.Omega.{arith}
-use native.Mathlib.Nat.{mod-lt, mod_self, mod-eq_of_lt, mod-add-mod}
+use native.Mathlib.Nat.{mod-lt, mod-eq_of_lt, mod-add-mod}
 use lib.ListN.{length, get_or}
 use Rattle.words.specs.Decided as words
-use Rattle.words.specs.Decided.{decided_rising, compare_numbers, compare_numbers_holds, Means}
+use Rattle.words.specs.Decided.{decided_rising, by_tests, compare_numbers, compare_numbers_holds, Means}
 use Rattle.words.specs.Letters.{rising}
 use Rattle.words.specs.Compute.InfiniteOrder.{copied, compare_copies, or_else, compare_infinite}
 use Rattle.words.specs.Laws.InfiniteOrder.{compare_copies_step, compare_infinite_enough}
-use Rattle.letters.specs.declared.Comparison.{Comparison}
+use Rattle.std.specs.declared.cmp.Ordering.{Ordering}
+use Rattle.std.specs.declared.cmp.Ordering.TheVariants.{Less, Equal, Greater}
+use Rattle.std.specs.Ordering.{nat_cmp}
+use Rattle.std.specs.Prelude.{Bool, true, false, cond, ltb, eqb}
 use Rattle.letters.specs.Compared.{comparison_of}
 
--- Behind the last position comes the first.
-pub wraps : (i n : ℕ) → i + 1 ≡ n → 0 ≡ (i + 1) % n
-wraps i n e = sym (mod_self n) ∙ ap (λ (k : ℕ). k % n) (sym e)
-
--- Behind every other comes the next.
-pub goes_on : (i n : ℕ) → i < n → ¬ (i + 1 ≡ n) → i + 1 ≡ (i + 1) % n
-goes_on i n l d = sym (mod-eq_of_lt (omega (arith, l, d)))
+-- std's comparison of two numbers, as `words` has it.
+compared : (a b : ℕ) → nat_cmp a b ≡ comparison_of (compare_numbers a b)
+compared a b = go (ltb a b) (eqb a b)
+  where
+    go : (l e : Bool) → cond l Less (cond e Equal Greater) ≡ comparison_of (by_tests l e)
+    go true e = refl
+    go false true = refl
+    go false false = refl
 
 -- The position behind i, where i is k modulo n, is k + 1 modulo n.
 behind : (r i k n : ℕ) → i ≡ k % n → r ≡ (i + 1) % n → r ≡ (k + 1) % n
@@ -85,9 +89,9 @@ module _ (u v : List ℕ) {most k i j : ℕ} (s : Comparing u v most k i j) wher
       ap (λ (c : words.Comparison). or_else c lengths) (sym (compare_copies_step decided_rising 0 u v left k)) ∙ f
 
   -- Letters that differ decide.
-  pub comparing_differs : {r : Comparison} {a b : ℕ} → k < most → a ≡ get_or u i 0 → b ≡ get_or v j 0 → ¬ (a ≡ b) → r ≡ comparison_of (compare_numbers a b) →
+  pub comparing_differs : {r : Ordering} {a b : ℕ} → k < most → a ≡ get_or u i 0 → b ≡ get_or v j 0 → ¬ (a ≡ b) → r ≡ nat_cmp a b →
       r ≡ comparison_of (compare_infinite decided_rising 0 u v)
-  comparing_differs {r} {a} {b} l p q d e = e ∙ ap comparison_of (go s.left s.total s.rest)
+  comparing_differs {r} {a} {b} l p q d e = e ∙ compared a b ∙ ap comparison_of (go s.left s.total s.rest)
     where
       go : (left : ℕ) → left + k ≡ most → Rest u v left k → compare_numbers a b ≡ compare_infinite decided_rising 0 u v
       go zero t f = absurd (omega (arith, t, l))
@@ -119,12 +123,3 @@ module _ (u v : List ℕ) {most k i j : ℕ} (s : Comparing u v most k i j) wher
                 subst (Rest u v left) one
                 (ap (λ (c : words.Comparison). or_else c (compare_numbers (length v) (length u))) (sym pass) ∙ letters_at left f);
           }
-
-  -- Where all of them were the same, the lengths decide.
-  pub comparing_end : {r : Comparison} → most ≤ k → r ≡ comparison_of (compare_numbers (length v) (length u)) →
-      r ≡ comparison_of (compare_infinite decided_rising 0 u v)
-  comparing_end l e = e ∙ ap comparison_of (go s.left s.total s.rest)
-    where
-      go : (left : ℕ) → left + k ≡ most → Rest u v left k → compare_numbers (length v) (length u) ≡ compare_infinite decided_rising 0 u v
-      go zero t f = f
-      go (suc left) t f = absurd (omega (arith, t, l))

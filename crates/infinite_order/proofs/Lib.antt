@@ -1,4 +1,3 @@
 pub mod Comparing
-pub mod Answering
 pub mod SortingLaws
 pub mod Reading

@@ -1,6 +1,8 @@
 -- What each call answers: the checks from the top row down, and then the count.
 -- Assumes nothing.
 use Rattle.std.specs.Prelude.{List, ℕ, length}
+use Rattle.std.specs.declared.cmp.Ordering.{Ordering}
+use Rattle.std.specs.declared.cmp.Ordering.TheVariants.{Less, Equal, Greater}
 use Rattle.words.specs.Decided.{decided_rising}
 use Rattle.words.specs.Compute.InfiniteOrder.{compare_infinite}
 use Rattle.words.specs.Compute.Lyndon.{lyndonb}
@@ -9,14 +11,12 @@ use Rattle.answer.specs.Answers.{accepted_with}
 use Rattle.answer.specs.Limits.{prefix_count}
 use Rattle.checks.specs.Checks.{two_texts_checked, lyndon_word_checked}
 use Rattle.letters.specs.Compared.{comparison_of}
-use Rattle.letters.specs.declared.Comparison.{Comparison}
-use Rattle.letters.specs.declared.Comparison.TheVariants.{Below, Same, Above}
 
 -- The count of an answer (document 02, E5: "The call says below, same or above, as count 0, 1 or 2").
-abbrev pub count_of : Comparison → ℕ
-count_of Below = 0
-count_of Same = 1
-count_of Above = 2
+abbrev pub count_of : Ordering → ℕ
+count_of Less = 0
+count_of Equal = 1
+count_of Greater = 2
 
 -- The call that compares two texts in infinite order (document 02, E5), rising.
 abbrev pub compare_answer : List ℕ → List ℕ → Answer

@@ -9,9 +9,9 @@ use Rattle.words.specs.Decided.{Comparison, below, same, above, decided_rising}
 use Rattle.words.specs.InfiniteOrder.{InfiniteLess}
 use Rattle.words.specs.Compute.InfiniteOrder.{InfiniteMeans, compare_infinite}
 use Rattle.words.specs.Laws.InfiniteOrder.{compares_as}
-use Rattle.answer.specs.declared.Answer.{Answer}
 use Rattle.answer.specs.declared.Reason.{Reason}
 use Rattle.answer.specs.declared.Reason.TheVariants.{EmptyText, TextTooLong}
+use Rattle.answer.specs.declared.Answer.{Answer}
 use Rattle.answer.specs.Answers.{accepted_with, refused_for, refused_if, number, value}
 use Rattle.answer.specs.Limits.{Sized, max_length}
 use Rattle.checks.specs.CheckLaws.{two_texts_passes}

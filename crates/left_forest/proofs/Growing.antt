@@ -6,6 +6,7 @@ use Prim.Native.Nat.{ℕ, suc, ◌-◌, ◌<◌, ◌≤◌}
 use native.Mathlib.Omega.{arith}
 use lib.ListN.{length, get_or, take}
 use lib.Seq.{get_or-take, length-take-le}
+use Rattle.std.specs.Prelude.{Ok}
 use Rattle.words.specs.Letters.{Letters, order_of}
 use Rattle.words.specs.Decided.{Decided, decided_order}
 use Rattle.words.specs.LeftForest.{IsLeftForest}
@@ -16,15 +17,21 @@ use Rattle.words.specs.Laws.SpanLyndon.{letters}
 use Rattle.words.specs.Laws.LongestEnding.{LongestEnding, longest_ending}
 use Rattle.words.specs.Laws.LeftForest.{Uncrossed, LeftRecords, longest_nested, records_left_forest}
 use Rattle.words.specs.Laws.ForestUnique.{left_forest_unique}
-use Rattle.answer.specs.AfterCall.{written}
-use Rattle.answer.specs.ContentLaws.{kept_then, kept_where, written_places}
+use Rattle.answer.specs.declared.Accepted.{Accepted}
+use Rattle.answer.specs.declared.Answer.{Answer}
+use Rattle.answer.specs.Answers.{accepted_with}
+use Rattle.answer.specs.AfterCall.{written, content_after}
+use Rattle.answer.specs.AfterLaws.{content_accepted}
+use Rattle.answer.specs.Limits.{Sized}
+use Rattle.answer.specs.ContentLaws.{kept_then, kept_where, written_places, same_room, sized_room}
 use Rattle.answer.specs.Content.{TextRoom}
 use Rattle.letters.specs.Ranks.{direction_of, row_in}
 use Rattle.letters.specs.RankLaws.{row_in_length}
+use Rattle.factors.specs.Answers.{suffix_table_in}
 use Rattle.factors.specs.Results.{AllTabled}
-use Rattle.answer.specs.ContentLaws.{same_room}
-use Rattle.left_forest.specs.Results.{Growable, Grown}
+use Rattle.left_forest.specs.Answers.{left_first_in, left_past_in}
 use Rattle.left_forest.specs.Links.{start_in, Descends, Linked, Linkable, Crossed, OwnRoots}
+use Rattle.left_forest.proofs.SuffixTable.{suffix_table_tabled}
 
 module _ {O : Letters {0, 0} ℕ} (D : Decided O) (x first past table : List ℕ)
     (room_first : TextRoom x first) (room_past : TextRoom x past) (w : AllTabled O x past table) where
@@ -135,23 +142,28 @@ module _ {O : Letters {0, 0} ℕ} (D : Decided O) (x first past table : List ℕ
                 (λ t l. sym (taken past₂ t l) ∙ ap (λ (m : List ℕ). get_or m t 0) q.1),
           )
 
--- The same in an order with a rank table: it is the row of the order that has a table and a forest, and the text has its length.
-module _ (order : ℕ) (ranks x first past table : List ℕ) (g : Growable order ranks x first past)
-    (w : AllTabled (order_of (direction_of order)) (row_in order ranks x) past table) where
+-- The same where `suffix_table_ranked` accepts in an order with a rank table: it is the row of the order that has a table and a forest, and the
+-- text has its length.
+module _ (order : ℕ) (ranks x first past table : List ℕ) (sized : Sized (length x)) (in_first : length x ≤ length first)
+    (in_past : length x ≤ length past) {r : Answer} {a : Accepted} (accepts : r.outcome ≡ Ok a)
+    (content : table ≡ content_after r (suffix_table_in order ranks x) past) where
   abbrev row : List ℕ
   row = row_in order ranks x
 
   abbrev decided : Decided (order_of (direction_of order))
   decided = decided_order (direction_of order)
 
+  w : AllTabled (order_of (direction_of order)) row past table
+  w = suffix_table_tabled order ranks x past table in_past accepts content
+
   same : length row ≡ length x
   same = row_in_length order ranks x
 
   room_first : TextRoom row first
-  room_first = same_room same g.in_first
+  room_first = same_room same (sized_room sized in_first)
 
   room_past : TextRoom row past
-  room_past = same_room same g.in_past
+  room_past = same_room same (sized_room sized in_past)
 
   pub ranked_linkable : Linkable first table (length x)
   ranked_linkable = subst (λ (n : ℕ). Linkable first table n) same (table_linkable decided row first past table room_first room_past w)
@@ -161,15 +173,20 @@ module _ (order : ℕ) (ranks x first past table : List ℕ) (g : Growable order
     crossed = subst (λ (n : ℕ). Crossed first table first₁ past₁ n last) (sym same) c
 
     some : 0 < length row
-    some = omega (arith, g.some, same)
+    some = omega (arith, same, sized.some)
 
     pub ranked_descends : Descends first₁ past₁ last
     ranked_descends = crossed_descends decided row first past table room_first room_past w first₁ past₁ last crossed some
 
-    pub ranked_written : (first₂ past₂ : List ℕ) →
-        ((start : ℕ → ℕ) (k : ℕ) → Linked start first₁ k last → OwnRoots start first₁ first₂ k) →
-        ((start : ℕ → ℕ) (k : ℕ) → Linked start first₁ k last → OwnRoots start past₁ past₂ k) → Grown order ranks x first first₂ past past₂
-    ranked_written first₂ past₂ roots_first roots_past =
-        let both =
-        forest_written decided row first past table room_first room_past w first₁ past₁ last crossed some first₂ past₂ roots_first roots_past in
-        record { in_first = both.0; in_past = both.1 }
+    module _ (first₂ past₂ : List ℕ)
+        (roots_first : (start : ℕ → ℕ) (k : ℕ) → Linked start first₁ k last → OwnRoots start first₁ first₂ k)
+        (roots_past : (start : ℕ → ℕ) (k : ℕ) → Linked start first₁ k last → OwnRoots start past₁ past₂ k)
+        {b : Answer} {count : ℕ} (answer : b ≡ accepted_with count) where
+      both : (first₂ ≡ written (left_first_in order ranks x) first) × (past₂ ≡ written (left_past_in order ranks x) past)
+      both = forest_written decided row first past table room_first room_past w first₁ past₁ last crossed some first₂ past₂ roots_first roots_past
+
+      pub ranked_first : first₂ ≡ content_after b (left_first_in order ranks x) first
+      ranked_first = content_accepted _ _ answer _ _ _ both.0
+
+      pub ranked_past : past₂ ≡ content_after b (left_past_in order ranks x) past
+      ranked_past = content_accepted _ _ answer _ _ _ both.1

@@ -1,19 +1,19 @@
 -- The passes of the left forest: what holds at each turn of their loops.
 -- Assumes nothing.
-use mathlib.Core.Path.{◌≡◌, refl, sym, ap, subst, ◌∙◌}
+use mathlib.Core.Path.{◌≡◌, sym, ap, subst, ◌∙◌}
 use mathlib.Core.List.{List}
 use Prim.Native.Nat.{ℕ, suc, ◌+◌, ◌-◌, ◌<◌, ◌≤◌}
 use native.Mathlib.Omega.{arith}
 use native.Mathlib.Decide.{dec_lt, ℕ_discrete}
-use lib.ListN.{length, get_or, set, length-set}
+use lib.ListN.{length, get_or, set}
 use lib.Seq.{get_or-set_same, get_or-set_other}
 use Rattle.words.specs.Laws.LeftForest.{Uncrossed, FirstCrossing, start_uncrossed}
 use Rattle.answer.specs.Content.{Kept, From}
-use Rattle.answer.specs.ContentLaws.{kept_all, kept_then, kept_where, kept_set}
+use Rattle.answer.specs.ContentLaws.{kept_then, kept_where, kept_set}
 use Rattle.left_forest.specs.Links.{start_in, Descends, Linked, Closes, Linkable, Crossed}
 
 -- A position that a word before e crosses is not uncrossed up to e.
-crossed_differs : (start : ℕ → ℕ) (j d e t : ℕ) → FirstCrossing start j d → d < e → Uncrossed start e t → ¬ (j ≡ t)
+pub crossed_differs : (start : ℕ → ℕ) (j d e t : ℕ) → FirstCrossing start j d → d < e → Uncrossed start e t → ¬ (j ≡ t)
 crossed_differs start j d e t w l h q = omega (arith, h d (omega (arith, w.from)) l, w.crosses)
 
 -- Closing the positions that the word ending at e crosses has come down to t: no word that ends before e crosses t.
@@ -28,35 +28,20 @@ pub record Closing (first before out : List ℕ) (e last t : ℕ) : Type 0 where
   pub reached : t ≤ e
   pub holds : (start : ℕ → ℕ) → Linked start first e last → ClosedTo start before out e t
 
-pub closing_start : (first past : List ℕ) (e last : ℕ) → Closing first past past e last e
-closing_start first past e last =
-    record {
-      others = kept_all past;
-      reached = omega arith;
-      holds =
-          λ start w.
-          record {
-            uncrossed = λ t p q. absurd (omega arith);
-            closed = λ j p q. absurd (omega (arith, q.from));
-            done = λ j d p q. refl;
-          };
-    }
+-- The link at t leads down.
+pub link_falls : {first past : List ℕ} {e : ℕ} → Descends first past e → (t : ℕ) → 0 < t → t ≤ e → get_or first t 0 < t
+link_falls {first} d t l h =
+    let i : ℕ = t - 1 in
+    let q : suc i ≡ t = omega arith in
+    omega (arith, d.down i (omega arith), ap (λ (k : ℕ). get_or first k 0) q)
 
 module _ (first before out : List ℕ) (e last t : ℕ) (d : Descends first before e) (w : Closing first before out e last t) where
-  -- The link at t leads down.
-  pub closing_falls : last < t → get_or first t 0 < t
-  closing_falls l =
-      let i : ℕ = t - 1 in
-      let q : suc i ≡ t = omega arith in
-      let f : get_or first (suc i) 0 ≤ i = d.down i (omega (arith, w.reached)) in
-      omega (arith, ap (λ (k : ℕ). get_or first k 0) q)
-
   -- t is closed, and the next position that no word before e crosses is the link's.
-  pub closing_step : last < t → Closing first before (set out t (e + 1)) e last (get_or first t 0)
-  closing_step l =
+  pub closing_step : (next : ℕ) → last < t → next ≡ get_or first t 0 → Closing first before (set out t (e + 1)) e last next
+  closing_step next l is =
       record {
         others = kept_then w.others (kept_set out t (e + 1) (λ j p r. omega (arith, w.reached)));
-        reached = omega (arith, closing_falls l, w.reached);
+        reached = omega (arith, is, link_falls d t (omega arith) w.reached, w.reached);
         holds = λ start k. step start k (w.holds start k);
       }
     where
@@ -66,7 +51,7 @@ module _ (first before out : List ℕ) (e last t : ℕ) (d : Descends first befo
       at : suc i ≡ t
       at = omega (arith, l)
 
-      step : (start : ℕ → ℕ) → Linked start first e last → ClosedTo start before out e t → ClosedTo start before (set out t (e + 1)) e (get_or first t 0)
+      step : (start : ℕ → ℕ) → Linked start first e last → ClosedTo start before out e t → ClosedTo start before (set out t (e + 1)) e next
       step start k h =
           record {
             uncrossed =
@@ -77,10 +62,10 @@ module _ (first before out : List ℕ) (e last t : ℕ) (d : Descends first befo
             done = λ j m p q. get_or-set_other out t j (e + 1) 0 (crossed_differs start j m e t q p h.uncrossed) ∙ h.done j m p q;
           }
         where
-          link : get_or first t 0 ≡ start i
-          link = ap (λ (m : ℕ). get_or first m 0) (sym at) ∙ k.link i (omega (arith, w.reached, at))
+          link : next ≡ start i
+          link = is ∙ ap (λ (m : ℕ). get_or first m 0) (sym at) ∙ k.link i (omega (arith, w.reached, at))
 
-          close_at : (j : ℕ) → get_or first t 0 < j → FirstCrossing start j e → Dec (j ≡ t) → get_or (set out t (e + 1)) j 0 ≡ suc e
+          close_at : (j : ℕ) → next < j → FirstCrossing start j e → Dec (j ≡ t) → get_or (set out t (e + 1)) j 0 ≡ suc e
           close_at j p q (yes r) =
               ap (λ (m : ℕ). get_or (set out t (e + 1)) m 0) r ∙
               get_or-set_same out t (e + 1) 0 (omega (arith, w.reached, w.others.size, d.in_past)) ∙ omega arith
@@ -100,32 +85,11 @@ module _ (first before out : List ℕ) (e last t : ℕ) (d : Descends first befo
         others = w.others;
       }
 
--- No word has been read.
-pub crossed_none : (first table : List ℕ) → Crossed first table first table 0 0
-crossed_none first table =
-    record {
-      small = omega arith;
-      link = λ i p. absurd (omega arith);
-      here = λ i p. absurd (omega arith);
-      closed = λ j d p q. absurd (omega arith);
-      in_first = kept_all first;
-      in_past = kept_all table;
-    }
-
--- What holds at each turn of the loop that reads the words.
-pub record Reading (before table first past : List ℕ) (n e last : ℕ) : Type 0 where
-  pub reached : e ≤ n
-  pub crossed : Crossed before table first past e last
-
 -- A word starts before it ends.
 start_at_most : (before table : List ℕ) (n : ℕ) → Linkable before table n → (i : ℕ) → i < n → start_in table i ≤ i
 start_at_most before table n k i l = omega (arith, k.positive i l, k.fits i l)
 
 module _ (before table first past : List ℕ) (n e last : ℕ) (k : Linkable before table n) (w : Crossed before table first past e last) (l : e < n) where
-  -- The entry at e is still there.
-  pub entry_fits : get_or past e 0 ≤ e + 1
-  entry_fits = omega (arith, w.in_past.kept e (omega arith), k.fits e l)
-
   in_buffer : e < length first
   in_buffer = omega (arith, w.in_first.size, k.in_first)
 
@@ -138,20 +102,12 @@ module _ (before table first past : List ℕ) (n e last : ℕ) (k : Linkable bef
           ap (λ (m : ℕ). get_or (set first e last) m 0) q ∙ get_or-set_same first e last 0 in_buffer ∙ sym (w.here i q)
       go (no q) = get_or-set_other first e (suc i) last 0 q ∙ w.link i (omega arith)
 
-  pub reading_descends : Descends (set first e last) past e
-  reading_descends =
-      record {
-        small = omega (arith, k.short);
-        in_first = omega (arith, length-set first e last, in_buffer);
-        in_past = omega (arith, w.in_past.size, k.in_past);
-        down = λ i p. omega (arith, link_at i p, start_at_most before table n k i (omega arith));
-      }
-
-  module _ (v : ℕ) (is : v ≡ e + 1 - get_or past e 0) where
-    start_here : start_in table e ≡ v
+  -- h is the entry.
+  module _ (h : ℕ) (is : h ≡ get_or past e 0) where
+    start_here : start_in table e ≡ e + 1 - h
     start_here = omega (arith, w.in_past.kept e (omega arith))
 
-    reading_linked : Linked (start_in table) (set first e last) e v
+    reading_linked : Linked (start_in table) (set first e last) e (e + 1 - h)
     reading_linked =
         record {
           below = λ i p. start_at_most before table n k i (omega arith);
@@ -162,29 +118,23 @@ module _ (before table first past : List ℕ) (n e last : ℕ) (k : Linkable bef
 
     -- The word that ends at e has been read.
     pub crossed_step : (past' : List ℕ) →
-        ((start : ℕ → ℕ) → Linked start (set first e last) e v → Closes start past past' e) →
-        Crossed before table (set first e last) past' (e + 1) v
+        ((start : ℕ → ℕ) → Linked start (set first e last) e (e + 1 - h) → Closes start past past' e) →
+        Crossed before table (set first e last) past' (e + 1) (e + 1 - h)
     crossed_step past' f =
-        let h : Closes (start_in table) past past' e = f (start_in table) reading_linked in
+        let c : Closes (start_in table) past past' e = f (start_in table) reading_linked in
         record {
           small = omega (arith, start_here, start_at_most before table n k e l);
           link = λ i p. link_at i (omega arith);
           here =
               λ i p.
               let q : e ≡ i = omega arith in
-              subst (λ (m : ℕ). start_in table m ≡ v) q start_here;
-          closed = λ j d p q. close_at h j d p q (ℕ_discrete d e);
+              subst (λ (m : ℕ). start_in table m ≡ e + 1 - h) q start_here;
+          closed = λ j d p q. close_at c j d p q (ℕ_discrete d e);
           in_first = kept_then (kept_where w.in_first (λ t p. omega arith)) (kept_set first e last (λ t p q. omega arith));
-          in_past = kept_then (kept_where w.in_past (λ t p. omega arith)) (kept_where h.others (λ t p. omega arith));
+          in_past = kept_then (kept_where w.in_past (λ t p. omega arith)) (kept_where c.others (λ t p. omega arith));
         }
       where
         close_at : Closes (start_in table) past past' e → (j d : ℕ) → d < e + 1 → FirstCrossing (start_in table) j d → Dec (d ≡ e) →
             get_or past' j 0 ≡ suc d
-        close_at h j d p q (yes r) = h.closed j (subst (λ (m : ℕ). FirstCrossing (start_in table) j m) r q) ∙ ap suc (sym r)
-        close_at h j d p q (no r) = h.done j d (omega arith) q ∙ w.closed j d (omega arith) q
-
--- All words have been read.
-pub reading_end : (before table first past : List ℕ) (n e last : ℕ) → Reading before table first past n e last → n ≤ e → Crossed before table first past n last
-reading_end before table first past n e last w l =
-    let q : e ≡ n = omega (arith, w.reached) in
-    subst (λ (m : ℕ). Crossed before table first past m last) q w.crossed
+        close_at c j d p q (yes r) = c.closed j (subst (λ (m : ℕ). FirstCrossing (start_in table) j m) r q) ∙ ap suc (sym r)
+        close_at c j d p q (no r) = c.done j d (omega arith) q ∙ w.closed j d (omega arith) q

@@ -1,6 +1,6 @@
 -- The pass that marks the starts of the factors: what holds at each turn of its loop.
 -- Assumes nothing.
-use mathlib.Core.Path.{◌≡◌, refl, sym, ap, subst, ◌∙◌}
+use mathlib.Core.Path.{◌≡◌, sym, ap, subst, ◌∙◌}
 use mathlib.Core.List.{List}
 use Prim.Native.Nat.{ℕ, suc, ◌-◌, ◌<◌, ◌≤◌}
 use native.Mathlib.Omega.{arith}
@@ -9,8 +9,9 @@ use lib.ListN.{length, get_or, set}
 use lib.Seq.{get_or-set_same, get_or-set_other}
 use Rattle.words.specs.Laws.LeftForest.{Uncrossed, FirstCrossing, start_uncrossed}
 use Rattle.answer.specs.Content.{Kept, From}
-use Rattle.answer.specs.ContentLaws.{kept_all, kept_then, kept_where, kept_set}
+use Rattle.answer.specs.ContentLaws.{kept_then, kept_where, kept_set}
 use Rattle.left_forest.specs.Links.{Descends, Linked, OwnRoots}
+use Rattle.left_forest.proofs.Linking.{link_falls, crossed_differs}
 
 -- Marking has come down to t in a buffer: the positions up to e behind t that no word crosses hold themselves.
 pub record MarkedTo (start : ℕ → ℕ) (before out : List ℕ) (e t : ℕ) : Type 0 where
@@ -22,27 +23,6 @@ pub record MarkedTo (start : ℕ → ℕ) (before out : List ℕ) (e t : ℕ) : 
 pub record Marking (first before out : List ℕ) (last t : ℕ) : Type 0 where
   pub intact : Kept (λ k. k ≤ t) before out
   pub holds : (start : ℕ → ℕ) (e : ℕ) → Linked start first e last → Uncrossed start (suc e) t × (t ≤ e) × MarkedTo start before out e t
-
-pub marking_start : (first before : List ℕ) (last : ℕ) → Marking first before before last last
-marking_start first before last =
-    record {
-      intact = kept_all before;
-      holds =
-          λ start e w. (
-            λ t p q.
-                omega (arith, w.here, w.nested e t (omega arith) (omega arith) (omega (arith, w.here))),
-            omega (arith, w.here, w.below e (omega arith)),
-            record {
-              own = λ j p q h. absurd (omega (arith, w.here, h e q (omega arith)));
-              kept = λ j d p q. refl;
-              others = kept_all before;
-            },
-          );
-    }
-
--- A position that is crossed is none that is not.
-rooted_differs : (start : ℕ → ℕ) (j d e t : ℕ) → FirstCrossing start j d → d ≤ e → Uncrossed start (suc e) t → ¬ (j ≡ t)
-rooted_differs start j d e t w l h q = omega (arith, h d (omega (arith, w.from)) (omega arith), w.crosses)
 
 module _ (first before out : List ℕ) (last t next : ℕ) (w : Marking first before out last t) (l : 0 < t) (room : t < length out)
     (link : next ≡ get_or first t 0) (falls : next < t) where
@@ -69,7 +49,7 @@ module _ (first before out : List ℕ) (last t next : ℕ) (w : Marking first be
         omega (arith, h.1, falls),
         record {
           own = λ j p q u. mark_at j p q u (ℕ_discrete j t);
-          kept = λ j d p q. get_or-set_other out t j t 0 (rooted_differs start j d e t q p h.0) ∙ h.2.kept j d p q;
+          kept = λ j d p q. get_or-set_other out t j t 0 (crossed_differs start j d (suc e) t q (omega arith) h.0) ∙ h.2.kept j d p q;
           others = kept_then h.2.others (kept_set out t t (λ j p q. omega (arith, h.1)));
         },
       )
@@ -108,23 +88,12 @@ pub record Rooting (first past first' past' : List ℕ) (last t : ℕ) : Type 0 
   pub in_first : Marking first first first' last t
   pub in_past : Marking first past past' last t
 
-pub rooting_start : (first past : List ℕ) (last : ℕ) → Rooting first past first past last last
-rooting_start first past last =
-    record { reached = omega arith; in_first = marking_start first first last; in_past = marking_start first past last }
-
 module _ (first past first' past' : List ℕ) (last t : ℕ) (d : Descends first past last) (w : Rooting first past first' past' last t) where
-  -- The link at t leads down.
-  pub rooting_falls : 0 < t → get_or first' t 0 < t
-  rooting_falls l =
-      let i : ℕ = t - 1 in
-      let q : suc i ≡ t = omega arith in
-      let f : get_or first (suc i) 0 ≤ i = d.down i (omega (arith, w.reached)) in
-      omega (arith, ap (λ (k : ℕ). get_or first k 0) q, w.in_first.intact.kept t (omega arith))
-
+  -- t is marked in both.
   pub rooting_step : (next : ℕ) → 0 < t → next ≡ get_or first' t 0 → Rooting first past (set first' t t) (set past' t t) last next
   rooting_step next l e =
-      let f : next < t = omega (arith, rooting_falls l) in
       let k : next ≡ get_or first t 0 = e ∙ w.in_first.intact.kept t (omega arith) in
+      let f : next < t = omega (arith, k, link_falls d t l w.reached) in
       record {
         reached = omega (arith, w.reached);
         in_first = marking_step first first first' last t next w.in_first l (omega (arith, w.reached, d.in_first, w.in_first.intact.size)) k f;

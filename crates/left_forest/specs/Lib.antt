@@ -1,5 +1,4 @@
 pub mod Links
-pub mod Results
 pub mod Answers
 pub mod Theorems
 pub mod RankTheorems

@@ -6,14 +6,15 @@
 
 ghost use Rattle.std.specs.Prelude.{◌≡◌, ℕ, length};
 ghost use Rattle.answer.specs.AfterCall.{content_after};
-ghost use Rattle.left_forest.specs.Results.{Growable, Grown};
 ghost use Rattle.left_forest.specs.Answers.{default_left_first, default_left_past, left_forest_answer, left_first_in, left_past_in, left_forest_ranked_answer};
 ghost use Rattle.left_forest.specs.Links.{Descends, Linked, Closes, Linkable, Crossed, OwnRoots};
 
 use answer::Answer;
-use checks::{Check, limits};
+use checks::limits;
 use factors::suffix_table::suffix_table_ranked;
 use letters::wide;
+
+// FIRST and PAST are passed side by side, and not in a struct: each method of one would also have to ensure that its two references stay the same.
 
 // The word that ends at `e` starts at `last`: from `e` down the links of FIRST, each position above
 // `last` gets its end in PAST.
@@ -22,6 +23,7 @@ fn close(first: &[u32], past: &mut [u32], e: usize, last: usize)
     ensures content { (start : ℕ → ℕ) → Linked start first.now e last → Closes start past.old past.new e }
 {
     let mut t = e;
+    // A while loop: the next position is the link that is read there.
     while last < t {
         past[t] = (e + 1) as u32;
         t = wide(first[t]);
@@ -35,12 +37,10 @@ fn link(first: &mut [u32], past: &mut [u32], n: usize) -> usize
     ensures content { Crossed first.old past.old first.new past.new n result }
 {
     let mut last: usize = 0;
-    let mut e: usize = 0;
-    while e < n {
+    for e in 0..n {
         first[e] = last as u32;
         last = e + 1 - wide(past[e]);
         close(first, past, e, last);
-        e += 1;
     }
     last
 }
@@ -53,6 +53,7 @@ fn mark_roots(first: &mut [u32], past: &mut [u32], last: usize)
     ensures ends { (start : ℕ → ℕ) (e : ℕ) → Linked start first.old e last → OwnRoots start past.old past.new e }
 {
     let mut t = last;
+    // A while loop: the next position is the link that is read there.
     while 0 < t {
         let next = wide(first[t]);
         first[t] = t as u32;
@@ -63,19 +64,9 @@ fn mark_roots(first: &mut [u32], past: &mut [u32], last: usize)
     past[0] = 0;
 }
 
-// Writes the left forest: PAST holds the suffix table until its words have been read. The checks of
-// `suffix_table_ranked` pass here, so that its answer need not be looked at.
-fn grow(text: &[u8], order: u32, table: &[u8], first: &mut [u32], past: &mut [u32])
-    requires { Growable order table.now text.now first.old past.old }
-    ensures content { Grown order table.now text.now first.old first.new past.old past.new }
-{
-    suffix_table_ranked(text, order, table, past);
-    let last = link(first, past, text.len());
-    mark_roots(first, past, last);
-}
-
 // Writes the left forest of `text`, in an order and with a rank table that order 2 looks at, into
-// `first` and `past`; the count is the number of letters.
+// `first` and `past`; the count is the number of letters. `past` holds the suffix table until its words
+// have been read, and the checks of `suffix_table_ranked` pass where those before it do.
 pub fn left_forest_ranked(
     text: &[u8],
     order: u32,
@@ -88,14 +79,15 @@ pub fn left_forest_ranked(
     ensures ends { past.new ≡ content_after result (left_past_in order table.now text.now) past.old }
 {
     let n = text.len();
-    let c = checks::ranked_forest(n, order, table.len(), first.len(), past.len());
-    match c {
-        Check::Failed { reason, position } => answer::refused(reason, position),
-        Check::Passed => {
-            grow(text, order, table, first, past);
-            answer::accepted(n as u32)
-        }
+    if let Err(refusal) = checks::ranked_forest(n, order, table.len(), first.len(), past.len()) {
+        return Answer::from(refusal);
     }
+    if let Err(refusal) = suffix_table_ranked(text, order, table, past).outcome {
+        return Answer::from(refusal);
+    }
+    let last = link(first, past, n);
+    mark_roots(first, past, last);
+    answer::accept(n as u32)
 }
 
 // Writes the left forest of `text`, in the default order, into `first` and `past`; the count is the

@@ -1,3 +1,2 @@
 pub mod Answers
-pub mod RankTests
-pub mod Tests
+pub mod Tables

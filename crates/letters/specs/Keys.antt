@@ -17,10 +17,6 @@ rank_table order table = tabulate (rank_in order table) 0 table_length
 unfoldable pub turned_table : List ℕ → List ℕ
 turned_table table = tabulate (λ a. 255 - get_or table a 0) 0 table_length
 
--- A buffer of 256 places into which a table was written; any other is as before.
-abbrev pub table_into : List ℕ → List ℕ → List ℕ
-table_into table before = cond (eqb (length before) table_length) table before
-
 -- The keys of an order: the ranks, turned round in order 1.
 abbrev pub key_table : ℕ → List ℕ → List ℕ
 key_table order table = cond (eqb order 1) (turned_table (rank_table order table)) (rank_table order table)

@@ -3,6 +3,7 @@ pub mod Ranks
 pub mod BuiltIn
 pub mod Default
 pub mod Keys
+pub mod Keyed
 pub mod RankLaws
 pub mod BuiltInLaws
 pub mod DefaultLaws

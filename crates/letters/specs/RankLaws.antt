@@ -118,6 +118,10 @@ module _ (order : ℕ) (table : List ℕ) where
       go false e = own_row (rank_table order table) x (λ i l. entry i ∙ simp e)
 
 module _ (table : List ℕ) where
+  pub turned_table_length : length (turned_table table) ≡ table_length
+  unfolding turned_table
+  turned_table_length = length-tabulate (λ b. 255 - get_or table b 0) 0 table_length
+
   pub turned_entry : (a : ℕ) → a < table_length → get_or (turned_table table) a 0 ≡ 255 - get_or table a 0
   unfolding turned_table
   turned_entry a l = get_or-tabulate (λ b. 255 - get_or table b 0) 0 table_length a l ∙ ap (λ (b : ℕ). 255 - get_or table b 0) (zero-add a)

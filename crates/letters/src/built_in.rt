@@ -1,7 +1,6 @@
 // The built-in tables (document 02, E9: those of the house), constants. Nothing is assumed.
 ghost use Rattle.std.specs.Prelude.{◌≡◌};
-ghost use Rattle.letters.specs.Ranks.{own_numbers};
-ghost use Rattle.letters.specs.BuiltIn.{folded_numbers, built_in_table};
+ghost use Rattle.letters.specs.BuiltIn.{built_in_table};
 ghost use Rattle.letters.specs.Default.{default_table};
 
 // Table 0: the rank of each byte is its number.
@@ -38,28 +37,15 @@ const FOLDED_NUMBERS: [u8; 256] = [
     255,
 ];
 
-// Table 0.
-fn own_numbers() -> [u8; 256]
-    ensures entries { result ≡ own_numbers }
-{
-    OWN_NUMBERS
-}
-
-// Table 1.
-fn folded_numbers() -> [u8; 256]
-    ensures entries { result ≡ folded_numbers }
-{
-    FOLDED_NUMBERS
-}
-
 // The built-in table of a number, 0 or 1; any other number gives table 1.
+#[tactic(auto, unfolding(crate::specs::Ranks::own_numbers, crate::specs::BuiltIn::folded_numbers))]
 pub fn table(number: u32) -> [u8; 256]
     ensures entries { result ≡ built_in_table number }
 {
     if number == 0 {
-        own_numbers()
+        OWN_NUMBERS
     } else {
-        folded_numbers()
+        FOLDED_NUMBERS
     }
 }
 

@@ -6,21 +6,37 @@
 
 pub mod built_in;
 
-ghost use Rattle.std.specs.Prelude.{◌≡◌, ◌<◌, ◌-◌};
+ghost use Rattle.std.specs.Prelude.{◌≡◌, ◌<◌, length, get_or};
 ghost use Rattle.words.specs.Decided.{decided_order};
-ghost use Rattle.answer.specs.Limits.{table_length};
-ghost use Rattle.letters.specs.Compared.{comparison_of, is_below};
+ghost use Rattle.letters.specs.Compared.{comparison_of, order_number, numbered_order};
 ghost use Rattle.letters.specs.Ranks.{rank_by, direction_of, rank_differs};
-ghost use Rattle.letters.specs.Keys.{rank_in, rank_table, turned_table, table_into, key_table};
+ghost use Rattle.letters.specs.Keyed.{row, letters_differ};
+ghost use Rattle.letters.specs.Keys.{rank_table, turned_table, key_table};
 
 use checks::limits;
+use std::cmp::Ordering;
 
-// Document 01's below, same or above.
+// The order that letters are compared in: in the falling one the greater number is the smaller letter.
+#[derive(Clone, Copy, Debug, PartialEq, Eq)]
+pub enum Order {
+    Rising,
+    Falling,
+}
+
+// A text of bytes with the table that its letters are compared by: each counts as its entry, its key.
 #[derive(Clone, Copy)]
-pub enum Comparison {
-    Below,
-    Same,
-    Above,
+pub struct Keyed<'a> {
+    pub text: &'a [u8],
+    pub keys: &'a [u8; 256],
+}
+
+impl Keyed<'_> {
+    // The number of letters.
+    pub fn len(self) -> usize
+        ensures { result ≡ length (row self.entry) }
+    {
+        self.text.len()
+    }
 }
 
 // A number of a buffer as a position.
@@ -30,121 +46,76 @@ pub fn wide(x: u32) -> usize
     x as usize
 }
 
-// Letter a is below letter b: in order 0 the smaller number, else the greater one.
-fn smaller(a: u32, b: u32, order: u32) -> bool
-    ensures answer { result ≡ is_below ((decided_order order).compare a b) }
+// The order of a number: ranks, order 2, are compared as in order 0.
+pub fn direction(order: u32) -> Order
+    ensures direction { result ≡ numbered_order (direction_of order) }
 {
-    if order == 0 {
-        return a < b;
-    }
-    b < a
-}
-
-// One question, with the answers below, same and above.
-pub fn compare(a: u32, b: u32, order: u32) -> Comparison
-    ensures answer { result ≡ comparison_of ((decided_order order).compare a b) }
-{
-    if smaller(a, b, order) {
-        Comparison::Below
-    } else if a == b {
-        Comparison::Same
-    } else {
-        Comparison::Above
+    match order {
+        0 | limits::RANKED => Order::Rising,
+        _ => Order::Falling,
     }
 }
 
-// The same question of two bytes.
-pub fn compare_bytes(a: u8, b: u8, order: u32) -> Comparison
-    ensures answer { result ≡ comparison_of ((decided_order order).compare a b) }
+// How two letters compare in an order.
+pub fn compare(a: u32, b: u32, order: Order) -> Ordering
+    ensures answer { result ≡ comparison_of ((decided_order (order_number order)).compare a b) }
 {
-    compare(a as u32, b as u32, order)
+    match order {
+        Order::Rising => a.cmp(&b),
+        Order::Falling => a.cmp(&b).reverse(),
+    }
 }
 
-// Two bytes differ in rank. Equal bytes have one rank, so that the table is read only where they differ.
+// Two bytes, of one text or of two, differ in rank. Equal bytes have one rank, so that the table is read only where they differ.
 pub fn differ(table: &[u8; 256], a: u8, b: u8) -> bool
     ensures answer { result ≡ rank_differs table.now a b }
 {
-    if a == b {
-        return false;
-    }
-    table[a as usize] != table[b as usize]
+    a != b && table[a as usize] != table[b as usize]
 }
 
-// The question of the ranks of two bytes.
-pub fn compare_ranks(table: &[u8; 256], a: u8, b: u8, order: u32) -> Comparison
-    ensures answer { result ≡ comparison_of ((decided_order order).compare (rank_by table.now a) (rank_by table.now b)) }
+// How the ranks of two bytes compare in an order.
+pub fn compare_ranks(table: &[u8; 256], a: u8, b: u8, order: Order) -> Ordering
+    ensures answer { result ≡ comparison_of ((decided_order (order_number order)).compare (rank_by table.now a) (rank_by table.now b)) }
 {
     if differ(table, a, b) {
-        return compare_bytes(table[a as usize], table[b as usize], order);
+        let (a, b) = (table[a as usize], table[b as usize]);
+        compare(u32::from(a), u32::from(b), order)
+    } else {
+        Ordering::Equal
     }
-    Comparison::Same
 }
 
-// The order that ranks or letters are compared in: ranks as in order 0.
-pub fn direction(order: u32) -> u32
-    ensures direction { result ≡ direction_of order }
+// The ranks of all bytes in an order: those of the table in order 2, if it has 256 entries, else their own numbers.
+pub fn rank_table(order: u32, table: &[u8]) -> [u8; 256]
+    ensures content { result ≡ rank_table order table.now }
 {
-    if order == limits::RANKED { 0 } else { order }
+    if order != limits::RANKED || table.len() != limits::TABLE_LENGTH {
+        return built_in::table(0);
+    }
+    let mut ranks = [0; 256];
+    ranks.copy_from_slice(table);
+    ranks
 }
 
-// The rank of byte a in an order.
-fn rank_at(order: u32, table: &[u8], a: usize) -> u8
-    requires { a < table_length }
-    ensures rank { result ≡ rank_in order table.now a }
+// A table turned round, for the falling order.
+pub fn turned_table(table: &[u8; 256]) -> [u8; 256]
+    ensures content { result ≡ turned_table table.now }
 {
-    if order != limits::RANKED {
-        return a as u8;
+    // A loop: the array's `map` took forty times as long.
+    let mut keys = *table;
+    for a in keys.iter_mut() {
+        *a = 255 - *a;
     }
-    if table.len() != limits::TABLE_LENGTH {
-        return a as u8;
-    }
-    table[a]
+    keys
 }
 
-// Writes the ranks of all bytes in an order: those of the table in order 2, else their own numbers. A buffer that has not 256 places is left as it is.
-pub fn rank_table(order: u32, table: &[u8], out: &mut [u8])
-    ensures content { out.new ≡ table_into (rank_table order table.now) out.old }
-{
-    if out.len() != limits::TABLE_LENGTH {
-        return;
-    }
-    let mut a: usize = 0;
-    while a < out.len() {
-        out[a] = rank_at(order, table, a);
-        a += 1;
-    }
-}
-
-// A rank turned round.
-fn turned(a: u8) -> u8
-    ensures rank { result ≡ 255 - a }
-{
-    255 - a
-}
-
-// Writes a table turned round, for the falling order, likewise.
-pub fn turned_table(table: &[u8; 256], out: &mut [u8])
-    ensures content { out.new ≡ table_into (turned_table table.now) out.old }
-{
-    if out.len() != limits::TABLE_LENGTH {
-        return;
-    }
-    let mut a: usize = 0;
-    while a < out.len() {
-        out[a] = turned(table[a]);
-        a += 1;
-    }
-}
-
-// Writes the keys of an order: the smaller key is the smaller letter.
-pub fn key_table(order: u32, table: &[u8], out: &mut [u8])
-    ensures content { out.new ≡ table_into (key_table order table.now) out.old }
+// The keys of an order: the smaller key is the smaller letter.
+pub fn key_table(order: u32, table: &[u8]) -> [u8; 256]
+    ensures content { result ≡ key_table order table.now }
 {
     if order == 1 {
-        let mut ranks = [0u8; 256];
-        rank_table(order, table, &mut ranks);
-        turned_table(&ranks, out);
+        turned_table(&rank_table(order, table))
     } else {
-        rank_table(order, table, out);
+        rank_table(order, table)
     }
 }

@@ -1,8 +1,8 @@
 -- What the repeat lister prints (document 01, "The FASTA reader and the repeat lister").
 -- Assumes nothing.
-use Rattle.std.specs.Prelude.{List, ℕ}
-use Rattle.answer.specs.declared.Outcome.{Outcome}
-use Rattle.answer.specs.declared.Outcome.TheVariants.{Accepted, Refused}
+use Rattle.std.specs.Prelude.{List, ℕ, Result, Ok, Err}
+use Rattle.answer.specs.declared.Accepted.{Accepted}
+use Rattle.answer.specs.declared.Refusal.{Refusal}
 use Rattle.answer.specs.Reasons.{number_of}
 use Rattle.answer.specs.Limits.{max_letters}
 use Rattle.array.specs.Calls.{run_list}
@@ -16,9 +16,9 @@ abbrev pub record_listing : List ℕ → ℕ → List ℕ
 record_listing x p = bed_lines (record_name x p) (run_list (record_letters x p))
 
 -- What is printed for the input x by the reader's outcome.
-abbrev pub listing_for : Outcome → List ℕ → List ℕ
-listing_for (Accepted count comparisons) x = record_listing x 0
-listing_for (Refused reason position) x = refusal_line (number_of reason) position
+abbrev pub listing_for : Result Accepted Refusal → List ℕ → List ℕ
+listing_for (Ok accepted) x = record_listing x 0
+listing_for (Err refusal) x = refusal_line (number_of refusal.reason) refusal.position
 
 -- What is printed for the input x.
 abbrev pub listing_of : List ℕ → List ℕ

@@ -4,7 +4,7 @@
 #![tactic(auto)]
 
 ghost use Rattle.std.specs.Prelude.{◌≡◌, length};
-ghost use Rattle.lyndon_c.specs.Record.{record_of, is_built_in};
+ghost use Rattle.lyndon_c.specs.Record.{record_of, name_of};
 ghost use Rattle.array.specs.Calls.{array_answer, array_ranked_answer, runs_answer, runs_ranked_answer};
 ghost use Rattle.array.specs.Theorems.{array_after, list_after, work_after};
 ghost use Rattle.array.specs.RankTheorems.{array_ranked_after, list_ranked_after, work_ranked_after};
@@ -24,12 +24,12 @@ ghost use Rattle.table_store.specs.Calls.{left_forest_stored_answer, left_first_
 ghost use Rattle.table_store.specs.Calls.{runs_stored_answer, list_stored_after, work_stored_after};
 
 use answer::Answer;
-use table_store::store::TableStore;
+use table_store::store::{TableName, TableStore};
 
 // An answer as C has it: number 0, the count and the letter comparisons that were counted, or the
 // refusal's number, the position and 0.
 #[repr(C)]
-#[derive(Clone, Copy)]
+#[derive(Clone, Copy, Debug, PartialEq, Eq)]
 pub struct LyndonAnswer {
     pub number: u32,
     pub value: u32,
@@ -38,19 +38,32 @@ pub struct LyndonAnswer {
 
 // A store and the answer of the call that wrote into it, as C has them.
 #[repr(C)]
-#[derive(Clone, Copy)]
+#[derive(Clone, Copy, Debug, PartialEq, Eq)]
 pub struct LyndonStoreWritten {
     pub store: TableStore,
     pub answer: LyndonAnswer,
 }
 
-fn exported(a: Answer) -> LyndonAnswer
-    ensures answer { result ≡ record_of a }
+impl From<Answer> for LyndonAnswer {
+    ghost from_gives = { λ a told. told ≡ record_of a };
+
+    fn from(a: Answer) -> LyndonAnswer {
+        LyndonAnswer {
+            number: answer::number(a),
+            value: answer::value(a),
+            comparisons: answer::comparisons(a),
+        }
+    }
+}
+
+// A table's name, as C gives it: 0 for the group's own tables, any other number for the built-in ones.
+fn named(group: u32, builtin: u32, number: u32) -> TableName
+    ensures name { result ≡ name_of group builtin number }
 {
-    LyndonAnswer {
-        number: answer::number(a),
-        value: answer::value(a),
-        comparisons: answer::comparisons(a),
+    TableName {
+        group,
+        builtin: builtin != 0,
+        number,
     }
 }
 
@@ -60,7 +73,7 @@ pub extern "C" fn lyndon_array_u8(text: &[u8], order: u32, out: &mut [u32]) -> L
     ensures answer { result ≡ record_of (array_answer (length text.now) order (length out.old)) }
     ensures content { out.new ≡ array_after text.now order out.old }
 {
-    exported(array::bytes::lyndon_array(text, order, out))
+    array::bytes::lyndon_array(text, order, out).into()
 }
 
 // The same in order 0, 1 or 2, in order 2 by a table of ranks.
@@ -74,7 +87,7 @@ pub extern "C" fn lyndon_array_ranked(
     ensures answer { result ≡ record_of (array_ranked_answer (length text.now) order (length table.now) (length out.old)) }
     ensures content { out.new ≡ array_ranked_after order table.now text.now out.old }
 {
-    exported(array::bytes::lyndon_array_ranked(text, order, table, out))
+    array::bytes::lyndon_array_ranked(text, order, table, out).into()
 }
 
 // The Lyndon array of a text of 32-bit letters.
@@ -83,7 +96,7 @@ pub extern "C" fn lyndon_array_u32(text: &[u32], order: u32, out: &mut [u32]) ->
     ensures answer { result ≡ record_of (array_answer (length text.now) order (length out.old)) }
     ensures content { out.new ≡ array_after text.now order out.old }
 {
-    exported(array::numbers::lyndon_array(text, order, out))
+    array::numbers::lyndon_array(text, order, out).into()
 }
 
 // All runs of a text of bytes.
@@ -93,7 +106,7 @@ pub extern "C" fn lyndon_runs(text: &[u8], work: &mut [u32], list: &mut [u32]) -
     ensures entries { list.new ≡ list_after text.now work.old list.old }
     ensures arrays { work.new ≡ work_after text.now work.old list.old }
 {
-    exported(array::runs::runs(text, work, list))
+    array::runs::runs(text, work, list).into()
 }
 
 // The same by a table of ranks.
@@ -108,7 +121,7 @@ pub extern "C" fn lyndon_runs_ranked(
     ensures entries { list.new ≡ list_ranked_after table.now text.now work.old list.old }
     ensures arrays { work.new ≡ work_ranked_after table.now text.now work.old list.old }
 {
-    exported(array::runs::runs_ranked(text, table, work, list))
+    array::runs::runs_ranked(text, table, work, list).into()
 }
 
 // The starts of the Lyndon factors of a text of bytes, in the default order.
@@ -117,7 +130,7 @@ pub extern "C" fn lyndon_factorization(text: &[u8], out: &mut [u32]) -> LyndonAn
     ensures answer { result ≡ record_of (factorization_answer text.now (length out.old)) }
     ensures content { out.new ≡ starts_after text.now out.old }
 {
-    exported(factors::factorization::factorization(text, out))
+    factors::factorization::factorization(text, out).into()
 }
 
 // The same in order 0, 1 or 2, in order 2 by a table of ranks.
@@ -131,7 +144,7 @@ pub extern "C" fn lyndon_factorization_ranked(
     ensures answer { result ≡ record_of (factorization_ranked_answer order table.now text.now (length out.old)) }
     ensures content { out.new ≡ factors_ranked_after order table.now text.now out.old }
 {
-    exported(factors::factorization::factorization_ranked(text, order, table, out))
+    factors::factorization::factorization_ranked(text, order, table, out).into()
 }
 
 // The Lyndon suffix table of a text of bytes, in the default order.
@@ -140,7 +153,7 @@ pub extern "C" fn lyndon_suffix_table(text: &[u8], out: &mut [u32]) -> LyndonAns
     ensures answer { result ≡ record_of (suffix_table_answer text.now (length out.old)) }
     ensures content { out.new ≡ table_after text.now out.old }
 {
-    exported(factors::suffix_table::suffix_table(text, out))
+    factors::suffix_table::suffix_table(text, out).into()
 }
 
 // The same in order 0, 1 or 2, in order 2 by a table of ranks.
@@ -154,7 +167,7 @@ pub extern "C" fn lyndon_suffix_table_ranked(
     ensures answer { result ≡ record_of (suffix_table_ranked_answer order table.now text.now (length out.old)) }
     ensures content { out.new ≡ suffix_table_ranked_after order table.now text.now out.old }
 {
-    exported(factors::suffix_table::suffix_table_ranked(text, order, table, out))
+    factors::suffix_table::suffix_table_ranked(text, order, table, out).into()
 }
 
 // The left Lyndon forest of a text of bytes, in the default order.
@@ -168,7 +181,7 @@ pub extern "C" fn lyndon_left_forest(
     ensures starts { first.new ≡ left_first_after text.now first.old past.old }
     ensures ends { past.new ≡ left_past_after text.now first.old past.old }
 {
-    exported(left_forest::left_forest(text, first, past))
+    left_forest::left_forest(text, first, past).into()
 }
 
 // The same in order 0, 1 or 2, in order 2 by a table of ranks.
@@ -184,7 +197,7 @@ pub extern "C" fn lyndon_left_forest_ranked(
     ensures starts { first.new ≡ left_first_ranked_after order table.now text.now first.old past.old }
     ensures ends { past.new ≡ left_past_ranked_after order table.now text.now first.old past.old }
 {
-    exported(left_forest::left_forest_ranked(text, order, table, first, past))
+    left_forest::left_forest_ranked(text, order, table, first, past).into()
 }
 
 // The right Lyndon forest of every text that has the array.
@@ -198,7 +211,7 @@ pub extern "C" fn lyndon_right_forest(
     ensures starts { first.new ≡ right_first_after array.now first.old past.old }
     ensures ends { past.new ≡ right_past_after array.now first.old past.old }
 {
-    exported(from_array::right_forest(array, first, past))
+    from_array::right_forest(array, first, past).into()
 }
 
 // A text of 32-bit letters that has the array.
@@ -207,7 +220,7 @@ pub extern "C" fn lyndon_reconstruct(array: &[u32], text: &mut [u32]) -> LyndonA
     ensures answer { result ≡ record_of (reconstruct_answer array.now (length text.old)) }
     ensures content { text.new ≡ text_after array.now text.old }
 {
-    exported(from_array::reconstruct(array, text))
+    from_array::reconstruct(array, text).into()
 }
 
 // Which of two texts of bytes is before the other in infinite order, in rising order of letters.
@@ -215,7 +228,7 @@ pub extern "C" fn lyndon_reconstruct(array: &[u32], text: &mut [u32]) -> LyndonA
 pub extern "C" fn lyndon_compare_infinite(u: &[u8], v: &[u8]) -> LyndonAnswer
     ensures answer { result ≡ record_of (compare_answer u.now v.now) }
 {
-    exported(infinite_order::compare::compare_infinite(u, v))
+    infinite_order::compare::compare_infinite(u, v).into()
 }
 
 // The prefix standard permutation of a Lyndon word of bytes, in rising order of letters.
@@ -224,7 +237,7 @@ pub extern "C" fn lyndon_prefix_permutation(word: &[u8], out: &mut [u32]) -> Lyn
     ensures answer { result ≡ record_of (prefix_permutation_answer word.now (length out.old)) }
     ensures content { out.new ≡ permutation_after word.now out.old }
 {
-    exported(infinite_order::prefix_permutation::prefix_permutation(word, out))
+    infinite_order::prefix_permutation::prefix_permutation(word, out).into()
 }
 
 // The letters of a FASTA input of one record.
@@ -233,7 +246,7 @@ pub extern "C" fn lyndon_read_fasta(input: &[u8], letters: &mut [u8]) -> LyndonA
     ensures answer { result ≡ record_of (reader_answer input.now (length letters.old)) }
     ensures content { letters.new ≡ letters_after input.now letters.old }
 {
-    exported(fasta::read(input, letters))
+    fasta::read(input, letters).into()
 }
 
 // A store in which no table is written.
@@ -241,13 +254,13 @@ pub extern "C" fn lyndon_read_fasta(input: &[u8], letters: &mut [u8]) -> LyndonA
 pub extern "C" fn lyndon_store_new() -> TableStore
     ensures store { result ≡ new_store }
 {
-    table_store::store::new_store()
+    TableStore::new()
 }
 
 // Replaces a group's own table.
 #[unsafe(no_mangle)]
 pub extern "C" fn lyndon_store_write(
-    store: TableStore,
+    mut store: TableStore,
     group: u32,
     number: u32,
     table: &[u8],
@@ -255,13 +268,8 @@ pub extern "C" fn lyndon_store_write(
     ensures answer { result.answer ≡ record_of (write_answer group number (length table.now)) }
     ensures store { result.store ≡ store_after store group number table.now }
 {
-    let written = table_store::store::write_table(store, group, number, table);
-    let after = written.store;
-    let told = written.answer;
-    LyndonStoreWritten {
-        store: after,
-        answer: exported(told),
-    }
+    let answer = store.write(group, number, table).into();
+    LyndonStoreWritten { store, answer }
 }
 
 // Reads a table back, a group's own or a built-in one.
@@ -273,10 +281,11 @@ pub extern "C" fn lyndon_store_read(
     number: u32,
     out: &mut [u8],
 ) -> LyndonAnswer
-    ensures answer { result ≡ record_of (read_answer (lookup store group (is_built_in builtin) number) (length out.old)) }
-    ensures content { out.new ≡ read_after (lookup store group (is_built_in builtin) number) out.old }
+    ensures answer { result ≡ record_of (read_answer (lookup store (name_of group builtin number)) (length out.old)) }
+    ensures content { out.new ≡ read_after (lookup store (name_of group builtin number)) out.old }
 {
-    exported(table_store::store::read_table(store, group, builtin != 0, number, out))
+    let name = named(group, builtin, number);
+    store.read(name, out).into()
 }
 
 // The Lyndon array of a text of bytes, by a table of a store.
@@ -289,10 +298,11 @@ pub extern "C" fn lyndon_store_array(
     text: &[u8],
     out: &mut [u32],
 ) -> LyndonAnswer
-    ensures answer { result ≡ record_of (array_stored_answer (lookup store group (is_built_in builtin) number) text.now (length out.old)) }
-    ensures content { out.new ≡ array_stored_after (lookup store group (is_built_in builtin) number) text.now out.old }
+    ensures answer { result ≡ record_of (array_stored_answer (lookup store (name_of group builtin number)) text.now (length out.old)) }
+    ensures content { out.new ≡ array_stored_after (lookup store (name_of group builtin number)) text.now out.old }
 {
-    exported(stored_calls::lyndon_array_stored(store, group, builtin != 0, number, text, out))
+    let name = named(group, builtin, number);
+    stored_calls::lyndon_array_stored(&store, name, text, out).into()
 }
 
 // The starts of its Lyndon factors, likewise.
@@ -305,10 +315,11 @@ pub extern "C" fn lyndon_store_factorization(
     text: &[u8],
     out: &mut [u32],
 ) -> LyndonAnswer
-    ensures answer { result ≡ record_of (factorization_stored_answer (lookup store group (is_built_in builtin) number) text.now (length out.old)) }
-    ensures content { out.new ≡ factors_stored_after (lookup store group (is_built_in builtin) number) text.now out.old }
+    ensures answer { result ≡ record_of (factorization_stored_answer (lookup store (name_of group builtin number)) text.now (length out.old)) }
+    ensures content { out.new ≡ factors_stored_after (lookup store (name_of group builtin number)) text.now out.old }
 {
-    exported(stored_calls::factorization_stored(store, group, builtin != 0, number, text, out))
+    let name = named(group, builtin, number);
+    stored_calls::factorization_stored(&store, name, text, out).into()
 }
 
 // Its Lyndon suffix table, likewise.
@@ -321,10 +332,11 @@ pub extern "C" fn lyndon_store_suffix_table(
     text: &[u8],
     out: &mut [u32],
 ) -> LyndonAnswer
-    ensures answer { result ≡ record_of (suffix_table_stored_answer (lookup store group (is_built_in builtin) number) text.now (length out.old)) }
-    ensures content { out.new ≡ suffix_table_stored_after (lookup store group (is_built_in builtin) number) text.now out.old }
+    ensures answer { result ≡ record_of (suffix_table_stored_answer (lookup store (name_of group builtin number)) text.now (length out.old)) }
+    ensures content { out.new ≡ suffix_table_stored_after (lookup store (name_of group builtin number)) text.now out.old }
 {
-    exported(stored_calls::suffix_table_stored(store, group, builtin != 0, number, text, out))
+    let name = named(group, builtin, number);
+    stored_calls::suffix_table_stored(&store, name, text, out).into()
 }
 
 // Its left Lyndon forest, likewise.
@@ -338,19 +350,12 @@ pub extern "C" fn lyndon_store_left_forest(
     first: &mut [u32],
     past: &mut [u32],
 ) -> LyndonAnswer
-    ensures answer { result ≡ record_of (left_forest_stored_answer (lookup store group (is_built_in builtin) number) text.now (length first.old) (length past.old)) }
-    ensures starts { first.new ≡ left_first_stored_after (lookup store group (is_built_in builtin) number) text.now first.old past.old }
-    ensures ends { past.new ≡ left_past_stored_after (lookup store group (is_built_in builtin) number) text.now first.old past.old }
+    ensures answer { result ≡ record_of (left_forest_stored_answer (lookup store (name_of group builtin number)) text.now (length first.old) (length past.old)) }
+    ensures starts { first.new ≡ left_first_stored_after (lookup store (name_of group builtin number)) text.now first.old past.old }
+    ensures ends { past.new ≡ left_past_stored_after (lookup store (name_of group builtin number)) text.now first.old past.old }
 {
-    exported(stored_calls::left_forest_stored(
-        store,
-        group,
-        builtin != 0,
-        number,
-        text,
-        first,
-        past,
-    ))
+    let name = named(group, builtin, number);
+    stored_calls::left_forest_stored(&store, name, text, first, past).into()
 }
 
 // All its runs, likewise.
@@ -364,9 +369,10 @@ pub extern "C" fn lyndon_store_runs(
     work: &mut [u32],
     list: &mut [u32],
 ) -> LyndonAnswer
-    ensures answer { result ≡ record_of (runs_stored_answer (lookup store group (is_built_in builtin) number) text.now (length work.old) (length list.old)) }
-    ensures entries { list.new ≡ list_stored_after (lookup store group (is_built_in builtin) number) text.now work.old list.old }
-    ensures arrays { work.new ≡ work_stored_after (lookup store group (is_built_in builtin) number) text.now work.old list.old }
+    ensures answer { result ≡ record_of (runs_stored_answer (lookup store (name_of group builtin number)) text.now (length work.old) (length list.old)) }
+    ensures entries { list.new ≡ list_stored_after (lookup store (name_of group builtin number)) text.now work.old list.old }
+    ensures arrays { work.new ≡ work_stored_after (lookup store (name_of group builtin number)) text.now work.old list.old }
 {
-    exported(stored_calls::runs_stored(store, group, builtin != 0, number, text, work, list))
+    let name = named(group, builtin, number);
+    stored_calls::runs_stored(&store, name, text, work, list).into()
 }

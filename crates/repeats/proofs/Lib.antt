@@ -1,3 +1,2 @@
--- Lemmas on what is read and written step by step, and on what is then printed.
+-- A lemma on what is read step by step.
 pub mod Bytes
-pub mod Listed

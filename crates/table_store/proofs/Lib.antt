@@ -1,1 +1,1 @@
-pub mod StoreTests
+pub mod StoreWrites

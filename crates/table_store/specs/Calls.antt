@@ -1,10 +1,10 @@
 -- What the calls on a store answer and leave: in lent buffers, and in the store.
 -- Assumes nothing.
-use Rattle.std.specs.Prelude.{false, List, ℕ, length}
+use Rattle.std.specs.Prelude.{List, ℕ, length, Result, Ok, Err}
+use Rattle.answer.specs.declared.Accepted.{Accepted}
+use Rattle.answer.specs.declared.Refusal.{Refusal}
 use Rattle.answer.specs.declared.Answer.{Answer}
-use Rattle.answer.specs.declared.Outcome.{Outcome}
-use Rattle.answer.specs.declared.Outcome.TheVariants.{Accepted, Refused}
-use Rattle.answer.specs.Answers.{accepted_with, refused_for}
+use Rattle.answer.specs.Answers.{accepted_with, refused_by}
 use Rattle.answer.specs.AfterCall.{content_after}
 use Rattle.answer.specs.Limits.{ranked_order, table_length}
 use Rattle.checks.specs.Checks.{table_write_checked, output_checked}
@@ -15,17 +15,17 @@ use Rattle.factors.specs.Theorems.{factors_ranked_after, suffix_table_ranked_aft
 use Rattle.left_forest.specs.Answers.{left_forest_ranked_answer}
 use Rattle.left_forest.specs.Theorems.{left_first_ranked_after, left_past_ranked_after}
 use Rattle.table_store.specs.declared.store.TableStore.{TableStore}
-use Rattle.table_store.specs.Store.{table_exists, with_table, Lookup, missing, found}
+use Rattle.table_store.specs.Store.{own_name, table_exists, with_table, Lookup}
 
 -- A write: refusal 21, then 16; the count is 256.
 abbrev pub write_answer : ℕ → ℕ → ℕ → Answer
 write_answer group number entries =
-    table_write_checked (table_exists group false number) entries (accepted_with table_length)
+    table_write_checked (table_exists (own_name group number)) entries (accepted_with table_length)
 
 -- The store after an outcome: the new one where the write was accepted, else as before.
-abbrev pub store_in : Outcome → TableStore → TableStore → TableStore
-store_in (Accepted count comparisons) new before = new
-store_in (Refused reason position) new before = before
+abbrev pub store_in : Result Accepted Refusal → TableStore → TableStore → TableStore
+store_in (Ok accepted) new before = new
+store_in (Err refusal) new before = before
 
 -- The store after a write.
 abbrev pub store_after : TableStore → ℕ → ℕ → List ℕ → TableStore
@@ -33,13 +33,13 @@ store_after store group number table = store_in (write_answer group number (leng
 
 -- The answer of a call that uses a table: the refusal, or that by the table found.
 abbrev pub answer_by : Lookup → (List ℕ → Answer) → Answer
-answer_by (missing reason) answer = refused_for reason 0
-answer_by (found table) answer = answer table
+answer_by (Ok table) answer = answer table
+answer_by (Err refusal) answer = refused_by refusal
 
 -- And what a buffer holds after it: what it held before, or what the call by the table found leaves.
 abbrev pub content_by : Lookup → (List ℕ → List ℕ) → List ℕ → List ℕ
-content_by (missing reason) content before = before
-content_by (found table) content before = content table
+content_by (Ok table) content before = content table
+content_by (Err refusal) content before = before
 
 -- A table copied into a buffer of `given` places: refusal 4; the count is 256.
 abbrev pub copy_answer : ℕ → Answer

@@ -1,9 +1,9 @@
 -- What a group gets does not depend on what the other calls, and its tables are those that it wrote last (document 02, E9).
 -- Assumes nothing.
-use Rattle.std.specs.Prelude.{◌≡◌, true, false, List, ℕ}
+use Rattle.std.specs.Prelude.{◌≡◌, true, List, ℕ}
 use Rattle.std.proofs.Common.{sym, ap, subst, ◌∙◌}
 use Rattle.answer.specs.declared.Reason.TheVariants.{UnwrittenTable}
-use Rattle.table_store.specs.Store.{group_exists, table_exists, new_store, Lookup, missing, lookup}
+use Rattle.table_store.specs.Store.{own_name, group_exists, table_exists, new_store, Lookup, missing, lookup}
 use Rattle.table_store.specs.Series.{Call, calls_of, results_of, store_at_end, last_written, SamePart}
 use Rattle.table_store.specs.StoreLaws.{new_whole}
 use Rattle.table_store.specs.SeriesLaws.{same_all, same_then, same_back, as_alone, series_looked}
@@ -30,8 +30,8 @@ isolation group exists p q same =
 
 -- After a series begun on a new store, a group's own table is that of the last write of it that was accepted; before the first one it is not
 -- written: refusal 22.
-pub last_written_lem : (group number : ℕ) → table_exists group false number ≡ true → (series : List Call) →
-    lookup (store_at_end new_store series) group false number ≡ last_written group number (missing UnwrittenTable) series
+pub last_written_lem : (group number : ℕ) → table_exists (own_name group number) ≡ true → (series : List Call) →
+    lookup (store_at_end new_store series) (own_name group number) ≡ last_written group number (missing UnwrittenTable) series
 last_written_lem group number exists series =
     series_looked group number exists series new_store new_whole ∙
     ap (λ (l : Lookup). last_written group number l series) (new_unwritten group number exists)

@@ -3,7 +3,6 @@ pub mod Calls
 pub mod StoreLaws
 pub mod Theorems
 pub mod Series
-pub mod Found
 pub mod SeriesLaws
 pub mod Isolation
 pub mod Examples

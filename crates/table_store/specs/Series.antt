@@ -1,9 +1,10 @@
 -- Series of calls on one store, by both groups (document 02, E9): calls and what they give back as data.
 -- Assumes nothing.
-use Rattle.std.specs.Prelude.{◌≡◌, Bool, cond, ◌&&◌, List, [], ◌∷◌, ℕ, ◌<◌, eqb, length}
+use Rattle.std.specs.Prelude.{◌≡◌, cond, ◌&&◌, List, [], ◌∷◌, ℕ, ◌<◌, eqb, length}
 use Rattle.answer.specs.declared.Answer.{Answer}
 use Rattle.answer.specs.Limits.{table_length}
 use Rattle.table_store.specs.declared.store.TableStore.{TableStore}
+use Rattle.table_store.specs.declared.store.TableName.{TableName}
 use Rattle.table_store.specs.Store.{own_tables, written_flag, own_table, Lookup, found, lookup}
 use Rattle.table_store.specs.Calls.{write_answer, store_after, read_answer, read_after, array_stored_answer, array_stored_after}
 use Rattle.table_store.specs.Calls.{factorization_stored_answer, factors_stored_after, suffix_table_stored_answer, suffix_table_stored_after}
@@ -21,12 +22,12 @@ pub data Use : Type 0 where
 -- A call with all that it is given but the store: a write of a group's own table, or a use of a table.
 pub data Call : Type 0 where
   write_table : (group number : ℕ) (table : List ℕ) → Call
-  use_table : (group : ℕ) (builtin : Bool) (number : ℕ) (task : Use) → Call
+  use_table : (name : TableName) (task : Use) → Call
 
 -- The group that calls, by the number that the call gives.
 abbrev pub group_of : Call → ℕ
 group_of (write_table group number table) = group
-group_of (use_table group builtin number task) = group
+group_of (use_table name task) = name.group
 
 -- What a call gives back: its answer, with count and comparisons, and what each buffer that it may write holds afterwards. The store that a
 -- write gives back too, the other group's tables in it, is not among these: of that, a group's part is compared at the end of a series (`SamePart`).
@@ -56,12 +57,12 @@ result_by looked (runs text work list) =
 -- What a call on a store gives back.
 abbrev pub result_of : TableStore → Call → Result
 result_of store (write_table group number table) = result_with (write_answer group number (length table)) []
-result_of store (use_table group builtin number task) = result_by (lookup store group builtin number) task
+result_of store (use_table name task) = result_by (lookup store name) task
 
 -- The store that is handed on: that which a write gives back, and after a use the one that it was given.
 abbrev pub store_of : TableStore → Call → TableStore
 store_of store (write_table group number table) = store_after store group number table
-store_of store (use_table group builtin number task) = store
+store_of store (use_table name task) = store
 
 -- The store at the end of a series of calls.
 abbrev pub store_at_end : TableStore → List Call → TableStore
@@ -75,7 +76,7 @@ last_written group number before [] = before
 last_written group number before (write_table g k table ∷ series) =
     let replaces = eqb g group && eqb k number && eqb (length table) table_length in
     last_written group number (cond replaces (found table) before) series
-last_written group number before (use_table g builtin k task ∷ series) = last_written group number before series
+last_written group number before (use_table name task ∷ series) = last_written group number before series
 
 -- The calls of one group in a series. Calls of the other group, and those with a group number that does not exist, are not among them.
 abbrev pub calls_of : ℕ → List Call → List Call

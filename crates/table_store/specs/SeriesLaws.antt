@@ -7,7 +7,8 @@ use Rattle.std.proofs.Math.Decide.{ℕ_discrete}
 use Rattle.std.proofs.lemmas.Bool.{eqb-false}
 use Rattle.answer.specs.Limits.{table_length}
 use Rattle.table_store.specs.declared.store.TableStore.{TableStore}
-use Rattle.table_store.specs.Store.{own_tables, group_exists, table_exists, written_flag, own_table, Lookup, found, lookup}
+use Rattle.table_store.specs.declared.store.TableName.{TableName}
+use Rattle.table_store.specs.Store.{own_tables, own_name, group_exists, table_exists, written_flag, own_table, Lookup, found, lookup}
 use Rattle.table_store.specs.Calls.{store_after}
 use Rattle.table_store.specs.Series.{Call, write_table, use_table, group_of, Result, result_by, result_of, store_of, store_at_end}
 use Rattle.table_store.specs.Series.{last_written, calls_of, results_of, SamePart}
@@ -24,26 +25,29 @@ pub same_back : {group : ℕ} {a b : TableStore} → SamePart group a b → Same
 same_back p = record { tables = λ k l. sym (p.tables k l); flags = λ k l. sym (p.flags k l) }
 
 -- A lookup rests on the group's part alone.
-lookup_same : (a b : TableStore) (group : ℕ) (builtin : Bool) (number : ℕ) → SamePart group a b →
-    lookup a group builtin number ≡ lookup b group builtin number
-lookup_same a b group true number same = refl
-lookup_same a b group false number same = go (table_exists group false number) refl
+lookup_same : (a b : TableStore) (name : TableName) → SamePart name.group a b → lookup a name ≡ lookup b name
+lookup_same a b name same = go name.builtin refl
   where
-    go : (t : Bool) → table_exists group false number ≡ t → lookup a group false number ≡ lookup b group false number
-    go true e =
-        let l = (own_table_lem group number e).low in
-        own_lookup a group number e ∙ ap₂ found_by (same.flags number l) (same.tables number l) ∙ sym (own_lookup b group number e)
-    go false e = no_lookup a group false number e ∙ sym (no_lookup b group false number e)
+    at : (t : Bool) → table_exists (own_name name.group name.number) ≡ t → lookup a (own_name name.group name.number) ≡ lookup b (own_name name.group name.number)
+    at true e =
+        let l = (own_table_lem name.group name.number e).low in
+        own_lookup a name.group name.number e ∙ ap₂ found_by (same.flags name.number l) (same.tables name.number l) ∙
+        sym (own_lookup b name.group name.number e)
+    at false e = no_lookup a (own_name name.group name.number) e ∙ sym (no_lookup b (own_name name.group name.number) e)
+
+    go : (builtin : Bool) → name.builtin ≡ builtin → lookup a name ≡ lookup b name
+    go true e = rw e refl
+    go false e = rw e (at (table_exists (own_name name.group name.number)) refl)
 
 -- So does what a call gives back.
 result_same : (a b : TableStore) (call : Call) → SamePart (group_of call) a b → result_of a call ≡ result_of b call
 result_same a b (write_table group number table) same = refl
-result_same a b (use_table group builtin number task) same = ap (λ (l : Lookup). result_by l task) (lookup_same a b group builtin number same)
+result_same a b (use_table name task) same = ap (λ (l : Lookup). result_by l task) (lookup_same a b name same)
 
 -- Every call keeps the lengths.
 step_whole : (store : TableStore) → Whole store → (call : Call) → Whole (store_of store call)
 step_whole store whole (write_table group number table) = after_whole store whole group number table
-step_whole store whole (use_table group builtin number task) = whole
+step_whole store whole (use_table name task) = whole
 
 -- A write by a group on two stores that agree in its part leaves two such.
 write_same : (group : ℕ) → group_exists group ≡ true → (a b : TableStore) → Whole a → Whole b → SamePart group a b → (number : ℕ) (table : List ℕ) →
@@ -59,7 +63,7 @@ write_same group exists a b whole_a whole_b same number table = go (write_case g
     Agree : ℕ → Type 0
     Agree k = (own_table new_a group k ≡ own_table new_b group k) × (written_flag new_a group k ≡ written_flag new_b group k)
 
-    at : table_exists group false number ≡ true → length table ≡ table_length → (k : ℕ) → k < own_tables → Dec (number ≡ k) → Agree k
+    at : table_exists (own_name group number) ≡ true → length table ≡ table_length → (k : ℕ) → k < own_tables → Dec (number ≡ k) → Agree k
     at there fits k l (yes z) =
         let in_a = after_table a whole_a group number table there fits in
         let in_b = after_table b whole_b group number table there fits in
@@ -79,7 +83,7 @@ write_same group exists a b whole_a whole_b same number table = go (write_case g
 step_same : (call : Call) → group_exists (group_of call) ≡ true → (a b : TableStore) → Whole a → Whole b → SamePart (group_of call) a b →
     SamePart (group_of call) (store_of a call) (store_of b call)
 step_same (write_table group number table) exists a b whole_a whole_b same = write_same group exists a b whole_a whole_b same number table
-step_same (use_table group builtin number task) exists a b whole_a whole_b same = same
+step_same (use_table name task) exists a b whole_a whole_b same = same
 
 module _ (group : ℕ) (exists : group_exists group ≡ true) where
   -- A call of another group leaves the group's part as it was.
@@ -90,7 +94,7 @@ module _ (group : ℕ) (exists : group_exists group ≡ true) where
       kept : (k : ℕ) → k < own_tables → (own_table (store_after a g number table) group k ≡ own_table a group k) ×
           (written_flag (store_after a g number table) group k ≡ written_flag a group k)
       kept k l = after_others a whole g number table group k (group_table group k exists l) (λ p. other p.0)
-  step_other a whole (use_table g builtin number task) other = same_all group a
+  step_other a whole (use_table name task) other = same_all group a
 
   -- What a group gets from a series that starts with a call, by whether the call is its own.
   results_from : (s : TableStore) (call : Call) (series : List Call) (t : Bool) → eqb (group_of call) group ≡ t →
@@ -124,32 +128,32 @@ module _ (group : ℕ) (exists : group_exists group ≡ true) where
           let after = rest b whole_b (same_then (step_other a whole_a call (eqb-false (group_of call) group e)) same) in
           (results_from a call series false e ∙ after.0, after.1)
 
-module _ (group number : ℕ) (exists : table_exists group false number ≡ true) where
+module _ (group number : ℕ) (exists : table_exists (own_name group number) ≡ true) where
   -- What a lookup finds of an own table after a write.
   write_looked : (store : TableStore) → Whole store → (g k : ℕ) (table : List ℕ) →
-      lookup (store_after store g k table) group false number ≡
-      cond (eqb g group && eqb k number && eqb (length table) table_length) (found table) (lookup store group false number)
+      lookup (store_after store g k table) (own_name group number) ≡
+      cond (eqb g group && eqb k number && eqb (length table) table_length) (found table) (lookup store (own_name group number))
   write_looked store whole g k table = go (eqb g group) (eqb k number) (eqb (length table) table_length) refl refl refl
     where
       new : TableStore
       new = store_after store g k table
 
       -- Another table is written.
-      kept : ¬ ((g ≡ group) × (k ≡ number)) → lookup new group false number ≡ lookup store group false number
+      kept : ¬ ((g ≡ group) × (k ≡ number)) → lookup new (own_name group number) ≡ lookup store (own_name group number)
       kept apart =
           let same = after_others store whole g k table group number (own_table_lem group number exists) apart in
           own_lookup new group number exists ∙ ap₂ found_by same.1 same.0 ∙ sym (own_lookup store group number exists)
 
       -- The length is not 256.
-      refused : ¬ (length table ≡ table_length) → WriteCase g k table → lookup new group false number ≡ lookup store group false number
+      refused : ¬ (length table ≡ table_length) → WriteCase g k table → lookup new (own_name group number) ≡ lookup store (own_name group number)
       refused wrong (replaced there fits) = absurd (wrong fits)
-      refused wrong (unchanged e) = ap (λ (s : TableStore). lookup s group false number) (e store)
+      refused wrong (unchanged e) = ap (λ (s : TableStore). lookup s (own_name group number)) (e store)
 
       go : (t u v : Bool) → eqb g group ≡ t → eqb k number ≡ u → eqb (length table) table_length ≡ v →
-          lookup new group false number ≡ cond (t && u && v) (found table) (lookup store group false number)
+          lookup new (own_name group number) ≡ cond (t && u && v) (found table) (lookup store (own_name group number))
       go true true true e f h =
           let after = after_table store whole group number table exists (eqb-true (length table) table_length h) in
-          ap₂ (λ (a b : ℕ). lookup (store_after store a b table) group false number) (eqb-true g group e) (eqb-true k number f) ∙
+          ap₂ (λ (a b : ℕ). lookup (store_after store a b table) (own_name group number)) (eqb-true g group e) (eqb-true k number f) ∙
           own_lookup (store_after store group number table) group number exists ∙ ap₂ found_by after.1 after.0
       go true true false e f h = refused (eqb-false (length table) table_length h) (write_case g k table)
       go true false v e f h = kept (λ p. eqb-false k number f p.1)
@@ -157,9 +161,9 @@ module _ (group number : ℕ) (exists : table_exists group false number ≡ true
 
   -- And after a series.
   pub series_looked : (series : List Call) (store : TableStore) → Whole store →
-      lookup (store_at_end store series) group false number ≡ last_written group number (lookup store group false number) series
+      lookup (store_at_end store series) (own_name group number) ≡ last_written group number (lookup store (own_name group number)) series
   series_looked [] store whole = refl
   series_looked (write_table g k table ∷ series) store whole =
       series_looked series (store_after store g k table) (after_whole store whole g k table) ∙
       ap (λ (l : Lookup). last_written group number l series) (write_looked store whole g k table)
-  series_looked (use_table g builtin k task ∷ series) store whole = series_looked series store whole
+  series_looked (use_table name task ∷ series) store whole = series_looked series store whole

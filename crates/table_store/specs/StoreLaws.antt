@@ -1,19 +1,21 @@
 -- Laws of the store: its lengths, and what a write changes and keeps.
 -- Assumes nothing.
-use Rattle.std.specs.Prelude.{◌≡◌, refl, Bool, true, false, not, List, ◌++◌, ℕ, ◌+◌, ◌-◌, ◌<◌, ◌≤◌, eqb, ltb, leb, length, take, drop}
-use Rattle.std.proofs.Common.{sym, ap, ap₂, subst, ◌∙◌, append_assoc, arith, ltb-true, leb-true, eqb-true, eq-eqb, length-set, length-drop, take-append-drop, length-take-le, take_all, take_at, drop_at, drop-drop, get_or-set_same, get_or-set_other}
-use Rattle.std.proofs.Math.Bool.{and-eq-true_iff}
+use Rattle.std.specs.Prelude.{◌≡◌, refl, Bool, true, false, not, List, ℕ, ◌+◌, ◌-◌, ◌<◌, ◌≤◌, eqb, length, take, drop}
+use Rattle.std.proofs.Common.{sym, ap, ap₂, subst, ◌∙◌, arith, rules, eqb-true, eq-eqb, length-set, get_or-set_same, get_or-set_other}
 use Rattle.std.proofs.Math.Decide.{dec_lt}
-use Rattle.std.proofs.lemmas.List.{length-replicate, take-append-le, drop-append-le}
+use Rattle.std.proofs.lemmas.List.{length-replicate}
 use Rattle.std.proofs.Math.Seq.{paste}
-use Rattle.std.proofs.lemmas.List.Edits.{length-paste, drop-paste}
-use Rattle.answer.specs.declared.Answer.{Answer}
+use Rattle.std.proofs.lemmas.List.Edits.{length-paste}
+use borrow.Rule.Slice.PartMut.{put_mid}
+use Rattle.std.proofs.lemmas.Slice.{put_mid-paste, between-put_mid, between_is, take-put_mid_below, overwrites}
 use Rattle.answer.specs.declared.Reason.TheVariants.{UnknownTable, WrongTable}
+use Rattle.answer.specs.declared.Answer.{Answer}
 use Rattle.answer.specs.Answers.{accepted_with, refused_if}
 use Rattle.answer.specs.Limits.{table_length}
 use Rattle.table_store.specs.declared.store.TableStore.{TableStore}
+use Rattle.table_store.specs.declared.store.TableName.{TableName}
 use Rattle.table_store.specs.Store.{own_tables, group_exists, table_exists, table_place, table_start, new_store, written_flag, own_table, with_table}
-use Rattle.table_store.specs.Store.{Lookup, missing, lookup_in, lookup}
+use Rattle.table_store.specs.Store.{own_name, Lookup, missing, lookup_in, lookup}
 use Rattle.table_store.specs.Calls.{write_answer, store_in, store_after}
 
 -- A store has the bytes of six tables and six flags.
@@ -31,62 +33,42 @@ pub record Existing (group number : ℕ) : Type 0 where
   pub low : number < own_tables
 
 pub group_table : (group number : ℕ) → group_exists group ≡ true → number < own_tables → Existing group number
-group_table group number e l =
-    let both = (and-eq-true_iff (leb 1 group) (leb group 2)).0 e in
-    record { first = leb-true 1 group both.0; last = leb-true group 2 both.1; low = l }
+group_table group number e l = record { first = grind arith; last = grind arith; low = l }
 
-pub own_table_lem : (group number : ℕ) → table_exists group false number ≡ true → Existing group number
-own_table_lem group number e =
-    let both = (and-eq-true_iff (group_exists group) (ltb number own_tables)).0 e in
-    group_table group number both.0 (ltb-true number own_tables both.1)
+pub own_table_lem : (group number : ℕ) → table_exists (own_name group number) ≡ true → Existing group number
+own_table_lem group number e = record { first = grind arith; last = grind arith; low = grind arith }
 
 -- Where there is no such table, a call finds none.
-pub no_lookup : (store : TableStore) (group : ℕ) (builtin : Bool) (number : ℕ) → table_exists group builtin number ≡ false →
-    lookup store group builtin number ≡ missing UnknownTable
-no_lookup store group builtin number e = rw e
+pub no_lookup : (store : TableStore) (name : TableName) → table_exists name ≡ false → lookup store name ≡ missing UnknownTable
+no_lookup store name e = rw e
 
 -- What a call finds of an own table, by its flag and its bytes.
 abbrev pub found_by : ℕ → List ℕ → Lookup
 found_by flag table = lookup_in true (not (eqb flag 0)) table
 
-pub own_lookup : (store : TableStore) (group number : ℕ) → table_exists group false number ≡ true →
-    lookup store group false number ≡ found_by (written_flag store group number) (own_table store group number)
+pub own_lookup : (store : TableStore) (group number : ℕ) → table_exists (own_name group number) ≡ true →
+    lookup store (own_name group number) ≡ found_by (written_flag store group number) (own_table store group number)
 own_lookup store group number e = rw e
 
--- A list in which the n elements from `at` on are replaced.
-module _ (d : List ℕ) (at : ℕ) (s : List ℕ) (n : ℕ) (inside : at + n ≤ length d) (enough : n ≤ length s) where
-  joined : paste d at s n ≡ take at d ++ (take n s ++ drop (at + n) d)
-  joined = append_assoc (take at d) (take n s) (drop (at + n) d)
-
-  front_length : length (take at d) ≡ at
-  front_length = length-take-le at d (omega arith)
+-- A list in which the elements from `at` on are replaced by n others.
+module _ (d : List ℕ) (at : ℕ) (s : List ℕ) (n : ℕ) (inside : at + n ≤ length d) (all : length s ≡ n) where
+  pasted : paste d at s n ≡ put_mid at n d s
+  pasted = sym (put_mid-paste at n d s s n refl refl (sym all))
 
   -- Those are the new ones.
-  paste_here : take n (drop at (paste d at s n)) ≡ take n s
-  paste_here =
-      ap (λ (r : List ℕ). take n (drop at r)) joined ∙
-      ap (take n) (drop_at (take at d) (take n s ++ drop (at + n) d) at front_length) ∙
-      take_at (take n s) (drop (at + n) d) n (length-take-le n s enough)
+  paste_here : take n (drop at (paste d at s n)) ≡ s
+  paste_here = let size : at + n - at ≡ n = omega arith in rw pasted (rw size at (between-put_mid at n d s (at + n) (omega arith) (omega arith)))
 
   -- A part before them is as it was.
   paste_before : (m f : ℕ) → f + m ≤ at → take m (drop f (paste d at s n)) ≡ take m (drop f d)
   paste_before m f h =
-      ap part joined ∙ front (take n s ++ drop (at + n) d) ∙ sym (front (drop at d)) ∙ ap part (take-append-drop at d)
-    where
-      part : List ℕ → List ℕ
-      part l = take m (drop f l)
-
-      front : (l : List ℕ) → part (take at d ++ l) ≡ part (take at d)
-      front l =
-          ap (take m) (drop-append-le f (take at d) l (omega (arith, front_length))) ∙
-          take-append-le m (drop f (take at d)) l (omega (arith, front_length, length-drop f (take at d)))
+      let size : f + m - f ≡ m = omega arith in
+      let part : (l : List ℕ) → take m (drop f l) ≡ drop f (take (f + m) l) = λ l. rw size at (between_is l f (f + m)) in
+      part (paste d at s n) ∙ ap (drop f) (rw pasted (take-put_mid_below at n d s (f + m) h (omega arith))) ∙ sym (part d)
 
   -- And so is all behind them.
   paste_behind : (f : ℕ) → at + n ≤ f → drop f (paste d at s n) ≡ drop f d
-  paste_behind f h =
-      let k : at + n + (f - (at + n)) ≡ f = omega arith in
-      ap (λ (i : ℕ). drop i (paste d at s n)) (sym k) ∙ sym (drop-drop (f - (at + n)) (at + n) (paste d at s n)) ∙
-      ap (drop (f - (at + n))) (drop-paste d at s n (omega arith) enough) ∙ drop-drop (f - (at + n)) (at + n) d ∙ ap (λ (i : ℕ). drop i d) k
+  paste_behind f h = search (rules, overwrites)
 
 -- Where the bytes of a group's own table start.
 abbrev start_of : ℕ → ℕ → ℕ
@@ -97,20 +79,17 @@ module _ (store : TableStore) (whole : Whole store) (group number : ℕ) (own : 
   room : start_of group number + table_length ≤ length store.tables
   room = omega (arith, whole, own)
 
-  full : table_length ≤ length table
-  full = omega arith
-
   with_whole : Whole (with_table store group number table)
   with_whole =
       record {
-        bytes = length-paste store.tables (start_of group number) table table_length room full ∙ whole.bytes;
+        bytes = length-paste store.tables (start_of group number) table table_length room (omega arith) ∙ whole.bytes;
         flags = length-set store.written (table_place group number) 1 ∙ whole.flags;
       }
 
   -- It is what its place holds, and its flag is 1.
   with_table_lem : own_table (with_table store group number table) group number ≡ table
   with_table_lem =
-      paste_here store.tables (start_of group number) table table_length room full ∙ take_all table_length table (omega arith)
+      paste_here store.tables (start_of group number) table table_length room fits
 
   with_flag : written_flag (with_table store group number table) group number ≡ 1
   with_flag = get_or-set_same store.written (table_place group number) 1 0 (omega (arith, whole, own))
@@ -127,10 +106,10 @@ module _ (store : TableStore) (whole : Whole store) (group number : ℕ) (own : 
       where
         bytes : Dec (table_place g k < table_place group number) → own_table (with_table store group number table) g k ≡ own_table store g k
         bytes (yes l) =
-            paste_before store.tables (start_of group number) table table_length room full table_length (start_of g k) (omega arith)
+            paste_before store.tables (start_of group number) table table_length room fits table_length (start_of g k) (omega arith)
         bytes (no l) =
             ap (take table_length)
-            (paste_behind store.tables (start_of group number) table table_length room full (start_of g k) (omega (arith, places_apart)))
+            (paste_behind store.tables (start_of group number) table table_length room fits (start_of g k) (omega (arith, places_apart)))
 
 -- The answer of a write, by whether there is such a table and whether 256 entries are given.
 abbrev write_in : Bool → Bool → Answer
@@ -142,18 +121,18 @@ module _ (group number : ℕ) (table : List ℕ) where
       store_after store group number table ≡ store_in answer.outcome (with_table store group number table) store
   after_answer e store = ap (λ (r : Answer). store_in r.outcome (with_table store group number table) store) e
 
-  pub write_accepted : table_exists group false number ≡ true → length table ≡ table_length → write_answer group number (length table) ≡ accepted_with table_length
+  pub write_accepted : table_exists (own_name group number) ≡ true → length table ≡ table_length → write_answer group number (length table) ≡ accepted_with table_length
   write_accepted exists fits = ap₂ write_in exists (eq-eqb (length table) table_length fits)
 
   -- A write is accepted, or leaves the store as it was.
   pub data WriteCase : Type 0 where
-    replaced : table_exists group false number ≡ true → length table ≡ table_length → WriteCase
+    replaced : table_exists (own_name group number) ≡ true → length table ≡ table_length → WriteCase
     unchanged : ((store : TableStore) → store_after store group number table ≡ store) → WriteCase
 
   pub write_case : WriteCase
-  write_case = go (table_exists group false number) (eqb (length table) table_length) refl refl refl
+  write_case = go (table_exists (own_name group number)) (eqb (length table) table_length) refl refl refl
     where
-      go : (t u : Bool) → table_exists group false number ≡ t → eqb (length table) table_length ≡ u →
+      go : (t u : Bool) → table_exists (own_name group number) ≡ t → eqb (length table) table_length ≡ u →
           write_answer group number (length table) ≡ write_in t u → WriteCase
       go true true e f answer = replaced e (eqb-true (length table) table_length f)
       go true false e f answer = unchanged (after_answer answer)
@@ -172,7 +151,7 @@ module _ (store : TableStore) (whole : Whole store) (group number : ℕ) (table 
       go (unchanged e) = subst Whole (sym (e store)) whole
 
   -- The table written is what its place holds, and its flag is 1.
-  pub after_table : table_exists group false number ≡ true → length table ≡ table_length →
+  pub after_table : table_exists (own_name group number) ≡ true → length table ≡ table_length →
       (own_table (store_after store group number table) group number ≡ table) × (written_flag (store_after store group number table) group number ≡ 1)
   after_table exists fits =
       let new = after_answer group number table (write_accepted group number table exists fits) store in

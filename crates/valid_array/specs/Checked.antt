@@ -9,12 +9,6 @@ use Rattle.words.specs.Laws.ValidSpans.{Innermost}
 pub record EntriesInRange (a : List ℕ) : Type 0 where
   pub at : (i : ℕ) → i < length a → InRange a i
 
--- r is the first position whose entry is 0 or too long, or the length where there is none.
-pub record FirstBad (a : List ℕ) (r : ℕ) : Type 0 where
-  pub within : r ≤ length a
-  pub good : (k : ℕ) → k < r → InRange a k
-  pub bad : r < length a → ¬ InRange a r
-
 -- r is a crossing found from the span of i, or the length where there is none: below r no span whose innermost one is that of i crosses its end.
 pub record CrossingFrom (a : List ℕ) (i r : ℕ) : Type 0 where
   pub within : r ≤ length a

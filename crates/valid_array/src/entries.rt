@@ -1,7 +1,12 @@
 // The entries of an array, each by itself. Contracts cite `specs/Checked.antt`. Nothing is assumed.
-ghost use Rattle.std.specs.Prelude.{◌≡◌, ◌<◌, length};
+ghost use Rattle.std.specs.Prelude.{◌≡◌, ◌<◌, ◌≤◌, length, OnOk, OnErr, IfErr};
 ghost use Rattle.words.specs.ArrayForest.{end_of};
-ghost use Rattle.valid_array.specs.Checked.{FirstBad};
+ghost use Rattle.answer.specs.Limits.{max_length};
+ghost use Rattle.answer.specs.Answers.{refused_by};
+ghost use Rattle.valid_array.specs.Answers.{array_checked};
+ghost use Rattle.valid_array.specs.Checked.{EntriesInRange};
+
+use answer::{Reason, Refusal};
 
 // Where the span at `i` ends. The sum of a position and an entry is made in 64 bits.
 pub(crate) fn end_of(array: &[u32], i: usize) -> usize
@@ -11,20 +16,24 @@ pub(crate) fn end_of(array: &[u32], i: usize) -> usize
     i + (array[i] as usize)
 }
 
-// The first position whose entry is 0 or too long, or the length of the array.
-pub(crate) fn first_bad(array: &[u32]) -> usize
-    ensures result { FirstBad array.now result }
+// Refusals 6 and 7 in one pass from the left: the first entry that is 0 or too long.
+#[tactic(auto, using(crate::proofs::Verdicts::zero_verdict, crate::proofs::Verdicts::long_verdict))]
+pub(crate) fn check_entries(array: &[u32]) -> Result<(), Refusal>
+    requires { length array.now ≤ max_length }
+    ensures in_range { OnOk result (EntriesInRange array.now) }
+    ensures refusal { IfErr result (λ r. array_checked array.now ≡ refused_by r) }
 {
-    let mut i = 0;
-    while i < array.len() {
+    for i in 0..array.len() {
         let end = end_of(array, i);
+        let position = i as u32;
         if end == i {
-            return i;
+            let reason = Reason::ZeroEntry;
+            return Err(Refusal { reason, position });
         }
         if array.len() < end {
-            return i;
+            let reason = Reason::LongEntry;
+            return Err(Refusal { reason, position });
         }
-        i += 1;
     }
-    i
+    Ok(())
 }

@@ -8,19 +8,21 @@ mod entries;
 mod spans;
 mod verdict;
 
-ghost use Rattle.std.specs.Prelude.{◌≡◌};
+ghost use Rattle.std.specs.Prelude.{◌≡◌, OnOk};
+ghost use Rattle.words.specs.ValidArray.{Valid};
 ghost use Rattle.valid_array.specs.Answers.{check_answer};
 
 use answer::Answer;
-use checks::Check;
 
 // Document 01's checks 1, 2, 6, 7 and 8: accepted, with the number of entries, where there are 1 to 1,048,576 and the array is valid.
 pub fn check(array: &[u32]) -> Answer
     ensures answer { result ≡ check_answer array.now }
+    ensures valid { OnOk result.outcome (Valid array.now) }
 {
-    let c = checks::array(array.len());
-    match c {
-        Check::Failed { reason, position } => answer::refused(reason, position),
-        Check::Passed => verdict::verdict(array),
+    if let Err(refusal) = checks::length(array.len()) {
+        return Answer::from(refusal);
+    }
+    Answer {
+        outcome: verdict::verdict(array),
     }
 }

@@ -1,29 +1,30 @@
 // The verdict on an array: its first fault, or that there is none.
 // Contracts cite `specs/Answers.antt`. Nothing is assumed.
-ghost use Rattle.std.specs.Prelude.{◌≡◌, ◌≤◌, length};
+ghost use Rattle.std.specs.Prelude.{◌≡◌, ◌≤◌, length, OnOk};
+ghost use Rattle.words.specs.ValidArray.{Valid};
 ghost use Rattle.answer.specs.Limits.{max_length};
 ghost use Rattle.valid_array.specs.Answers.{array_checked};
 
-use super::entries::first_bad;
+use super::entries::check_entries;
 use super::spans::least_crossing;
-use answer::{Answer, Reason};
+use answer::{Accepted, Reason, Refusal};
 
 // Refusals 6 and 7 in one pass from the left, then refusal 8; accepted where the array is valid.
-pub(crate) fn verdict(array: &[u32]) -> Answer
+#[tactic(auto, using(crate::proofs::Verdicts::crossing_verdict, crate::proofs::Verdicts::fits_valid, crate::proofs::Verdicts::fits_verdict))]
+pub(crate) fn verdict(array: &[u32]) -> Result<Accepted, Refusal>
     requires { length array.now ≤ max_length }
-    ensures answer { result ≡ array_checked array.now }
+    ensures answer { result ≡ (array_checked array.now).outcome }
+    ensures valid { OnOk result (Valid array.now) }
 {
-    let n = array.len();
-    let bad = first_bad(array);
-    if bad < n {
-        if array[bad] == 0 {
-            return answer::refused(Reason::ZeroEntry, bad as u32);
-        }
-        return answer::refused(Reason::LongEntry, bad as u32);
+    check_entries(array)?;
+    if let Some(crossing) = least_crossing(array) {
+        return Err(Refusal {
+            reason: Reason::CrossingSpans,
+            position: crossing as u32,
+        });
     }
-    let least = least_crossing(array);
-    if least < n {
-        return answer::refused(Reason::CrossingSpans, least as u32);
-    }
-    answer::accepted(n as u32)
+    Ok(Accepted {
+        count: array.len() as u32,
+        comparisons: 0,
+    })
 }

@@ -1,9 +1,7 @@
 -- The buffer filled from the last position on, and what is left to restore at the end.
 -- Assumes nothing.
 use Rattle.std.specs.Prelude.{◌≡◌, List, ℕ, ◌<◌, ◌≤◌, length, get_or}
-use Rattle.answer.specs.Content.{Kept, From, TextRoom}
-use Rattle.checks.specs.declared.Check.{Check}
-use Rattle.checks.specs.declared.Check.TheVariants.{Passed}
+use Rattle.answer.specs.Content.{Kept, From}
 use Rattle.array.specs.Core.Rows.{entry_of, RowsOf}
 
 -- The positions from i on have been joined.
@@ -23,7 +21,3 @@ pub record HasRows (buf : List ℕ) (n : ℕ) : Type 0 where
 pub record AllRestored (before after : List ℕ) (n : ℕ) : Type 0 where
   pub others : Kept (From n) before after
   pub final : (order : ℕ) (x : List ℕ) → length x ≡ n → RowsOf order x before 0 → (t : ℕ) → t < n → get_or after t 0 ≡ entry_of order x t
-
--- Where the checks have passed there is room for the array.
-pub record RoomWhere (c : Check) (x out : List ℕ) : Type 0 where
-  pub room : c ≡ Passed → TextRoom x out

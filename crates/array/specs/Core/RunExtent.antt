@@ -5,13 +5,13 @@ use Rattle.words.specs.Laws.Position.{Agree}
 use Rattle.words.specs.Laws.SpanLyndon.{letters}
 use Rattle.words.specs.Laws.SuffixOrder.{NextSmaller}
 use Rattle.words.specs.Letters.{rising}
-use Rattle.letters.specs.declared.Comparison.{Comparison}
-use Rattle.letters.specs.declared.Comparison.TheVariants.{Below, Same, Above}
+use Rattle.std.specs.declared.cmp.Ordering.{Ordering}
+use Rattle.std.specs.declared.cmp.Ordering.TheVariants.{Less, Equal, Greater}
 use Rattle.array.specs.Core.Join.{Stopped, Agreeing}
 use Rattle.array.specs.Core.Rows.{entry_of}
 
 -- The join loop of i has stopped at j after k letters.
-pub record StoppedAt (x buf : List ℕ) (i j k : ℕ) (stop : Comparison) : Type 0 where
+pub record StoppedAt (x buf : List ℕ) (i j k : ℕ) (stop : Ordering) : Type 0 where
   pub order : ℕ
   pub after : i < j
   pub inside : j ≤ length x
@@ -27,10 +27,10 @@ pub record Exact (x : List ℕ) (i j k : ℕ) : Type 0 where
   pub stops : j + k < length x → ¬ (letters 0 x (i + k) ≡ letters 0 x (j + k))
 
 -- How far they agree, by the comparison that stopped the joining.
-abbrev pub ExtendedTo : List ℕ → ℕ → ℕ → ℕ → Comparison → Type 0
-ExtendedTo x i j k Below = Unit {0}
-ExtendedTo x i j k Same = Agreeing x i j k
-ExtendedTo x i j k Above = Exact x i j k
+abbrev pub ExtendedTo : List ℕ → ℕ → ℕ → ℕ → Ordering → Type 0
+ExtendedTo x i j k Less = Unit {0}
+ExtendedTo x i j k Equal = Agreeing x i j k
+ExtendedTo x i j k Greater = Exact x i j k
 
 -- The letters from s up to i continue period p to the left, and none before them does.
 pub record LeftExtent (x : List ℕ) (i p s : ℕ) : Type 0 where

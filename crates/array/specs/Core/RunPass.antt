@@ -12,8 +12,6 @@ use Rattle.words.specs.Runs.{Entry, numbers}
 use Rattle.answer.specs.Limits.{Sized, max_length, run_list_length, work_length}
 use Rattle.answer.specs.AfterCall.{written}
 use Rattle.answer.specs.Content.{Kept, From, Written}
-use Rattle.checks.specs.declared.Check.{Check}
-use Rattle.checks.specs.declared.Check.TheVariants.{Passed}
 use Rattle.array.specs.Calls.{run_list, run_numbers, both_arrays}
 use Rattle.array.specs.Core.Fill.{Filled}
 use Rattle.array.specs.Core.Join.{JoinReady}
@@ -79,7 +77,3 @@ pub record RunsFound (x before after list list' : List ℕ) (count : ℕ) : Type
   pub few : count < length x
   pub entries : list' ≡ written (run_numbers x) list
   pub arrays : after ≡ written (both_arrays x) before
-
--- Where the checks have passed there is room for both orders.
-pub record ReadyWhere (c : Check) (x work list : List ℕ) : Type 0 where
-  pub ready : c ≡ Passed → FindReady x work list

@@ -6,7 +6,8 @@ use Rattle.std.proofs.Math.Decide.{dec_lt}
 use Rattle.words.specs.Laws.Numbers.{below_suc}
 use Rattle.fasta_record.specs.declared.bytes.NameByte.{NameByte}
 use Rattle.fasta_record.specs.declared.bytes.NameByte.TheVariants.{Part, Past, Foreign}
-use Rattle.fasta_record.specs.declared.name.Name.TheVariants.{Misnamed}
+use Rattle.answer.specs.declared.Reason.TheVariants.{BadName}
+use Rattle.fasta_record.specs.Fault.{refused_at}
 use Rattle.fasta_record.specs.Bytes.{name_byte_of}
 use Rattle.fasta.specs.Classes.{InName}
 use Rattle.fasta_record.specs.Name.{max_name, name_step, name_from}
@@ -45,12 +46,12 @@ module _ (x : List ℕ) (s p count : ℕ) (within : p < length x) (at : NameReac
   name_step_lem : (k : NameByte) → NameByteSays (get_or x p 0) k → NameSays x s (name_step k p count (name_from (suc p) (suc count) (drop (suc p) x)))
   name_step_lem Part i = go (ltb count max_name) refl
     where
-      go : (t : Bool) → ltb count max_name ≡ t → NameSays x s (cond t (name_from (suc p) (suc count) (drop (suc p) x)) (Misnamed p))
+      go : (t : Bool) → ltb count max_name ≡ t → NameSays x s (cond t (name_from (suc p) (suc count) (drop (suc p) x)) (refused_at BadName p))
       go true h = rest (further i (ltb-true count max_name h))
       go false h =
-          ((at.up_to, too_long (omega (arith, at.place, at.most, ltb-false count max_name h)) within i), at.clean)
+          (refl, (at.up_to, too_long (omega (arith, at.place, at.most, ltb-false count max_name h)) within i), at.clean)
   name_step_lem Past o = over_says x s p count at (inr (within, o))
-  name_step_lem Foreign n = ((at.up_to, foreign within n.0 n.1), at.clean)
+  name_step_lem Foreign n = (refl, (at.up_to, foreign within n.0 n.1), at.clean)
 
 -- The pass from p on, over d bytes.
 name_from_says :

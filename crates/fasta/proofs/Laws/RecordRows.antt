@@ -1,27 +1,28 @@
 -- How a record ends is the first of its rows whose condition holds.
 -- Assumes nothing.
-use Rattle.std.specs.Prelude.{◌≡◌, Bool, true, false, cond, List, ℕ, suc, ◌-◌, ◌≤◌, ◌<◌, length, take, drop}
-use Rattle.std.proofs.Common.{subst, ap, ◌∙◌, arith}
+use Rattle.std.specs.Prelude.{◌≡◌, Bool, true, false, cond, List, ℕ, suc, ◌-◌, ◌≤◌, ◌<◌, length, take, drop, Result, Ok, Err}
+use Rattle.std.proofs.Common.{sym, subst, ap, ◌∙◌, arith}
 use Rattle.std.proofs.Math.Seq.{take-length}
 use Rattle.answer.specs.declared.Reason.{Reason}
 use Rattle.answer.specs.declared.Reason.TheVariants.{NoHeader, NoLetters}
-use Rattle.fasta_record.specs.declared.name.Name.{Name}
-use Rattle.fasta_record.specs.declared.name.Name.TheVariants.{Named, Misnamed}
-use Rattle.fasta_record.specs.declared.lines.Ending.{Ending}
-use Rattle.fasta_record.specs.declared.lines.Ending.TheVariants.{RefusedAt, NextRecord, Finished}
+use Rattle.fasta_record.specs.declared.Fault.{Fault}
+use Rattle.fasta_record.specs.declared.lines.Lines.{Lines}
+use Rattle.fasta_record.specs.declared.lines.Stop.{Stop}
+use Rattle.fasta_record.specs.declared.lines.Stop.TheVariants.{NextRecord, InputEnd}
+use Rattle.fasta_record.specs.Fault.{refused_at}
 use Rattle.fasta_record.specs.Bytes.{header_mark, starts_with}
-use Rattle.fasta_record.specs.Name.{name_from, end_of}
+use Rattle.fasta_record.specs.Name.{name_from}
 use Rattle.fasta_record.specs.Lines.{lines_from}
-use Rattle.fasta_record.specs.Record.{name_checked, lines_start, record_ending, name_end}
+use Rattle.fasta_record.specs.Record.{with_lines, lines_start, record_at}
 use Rattle.fasta.specs.Rows.{Stands, NameEnds, HeaderEnds, sequence_letters, LineRow}
 use Rattle.fasta.specs.Rows.{RecordRow, no_header, bad_name, in_lines, no_letters}
 use Rattle.fasta.specs.CheckOrder.{pass_of, FirstOf}
 use Rattle.fasta.specs.Laws.Stands.{StartSays, start_says}
 use Rattle.fasta.specs.Laws.NameRows.{NameSays}
 use Rattle.fasta.proofs.Laws.NameRows.{named_fits, name_says}
-use Rattle.fasta.specs.Laws.LineRows.{CleanTo, EndingSays}
+use Rattle.fasta.specs.Laws.LineRows.{CleanTo, StopSays, LinesSay}
 use Rattle.fasta.specs.Laws.HeaderLine.{header_unique, LinesBegin, lines_begin, row_in_lines, header_lines_say}
-use Rattle.fasta.specs.Laws.RecordRows.{earlier_pass, earlier_position, line_pass, ReadToEnd, RecordSays, header_first, name_first}
+use Rattle.fasta.specs.Laws.RecordRows.{earlier_pass, earlier_position, line_pass, ReadToEnd, LastSays, RecordSays, header_first, name_first}
 
 module _ (x : List ℕ) (s : ℕ) where
   module _ (header : Stands x s header_mark) {n : ℕ} (name : NameEnds x s n) {e : ℕ} (ends : HeaderEnds x s e) where
@@ -57,28 +58,30 @@ module _ (x : List ℕ) (s : ℕ) where
         }
 
     -- What the lines say.
-    lines_record : (end : Ending) → EndingSays x e end → RecordSays x s n end
-    lines_record (RefusedAt r p) h = lines_first h.0 h.1
-    lines_record (NextRecord c p) h = lines_first h.0 h.1
-    lines_record (Finished c p) h = lines_whole h.0 h.1 h.2
+    lines_record : (found : Result Lines Fault) → LinesSay x e found → RecordSays x s (with_lines (Ok n) found)
+    lines_record (Err fault) h = lines_first h.0 h.1
+    lines_record (Ok lines) h = go lines.stop h
+      where
+        go : (t : Stop) → StopSays x e lines t → LastSays x s (record { name_end = n; lines = lines }) t
+        go NextRecord h = lines_first h.0 h.1
+        go InputEnd h = lines_whole h.0 h.1 h.2
 
--- How the record ends that starts at s.
-pub record_says : (x : List ℕ) (s : ℕ) → s ≤ length x → RecordSays x s (name_end x s) (record_ending x s)
+-- What is found of the record that starts at s.
+pub record_says : (x : List ℕ) (s : ℕ) → s ≤ length x → RecordSays x s (record_at x s)
 record_says x s h = go (starts_with header_mark (drop s x)) (start_says x s header_mark)
   where
-    lines : LinesBegin x s (lines_start x s)
-    lines = lines_begin x s h
+    begin : LinesBegin x s (lines_start x s)
+    begin = lines_begin x s h
 
-    named : Stands x s header_mark → (n : Name) → NameSays x s n
-        → RecordSays x s (end_of n) (name_checked n (lines_from (lines_start x s) false 0 (drop (lines_start x s) x)))
-    named b (Named p) name =
-        lines_record x s b name lines.ends (lines_from (lines_start x s) false 0 (drop (lines_start x s) x)) (header_lines_say lines)
-    named b (Misnamed p) row = name_first x s b row.0 row.1
+    found : Result Lines Fault
+    found = lines_from (lines_start x s) false 0 (drop (lines_start x s) x)
+
+    named : Stands x s header_mark → (n : Result ℕ Fault) → NameSays x s n → RecordSays x s (with_lines n found)
+    named b (Ok p) name = lines_record x s b name begin.ends found (header_lines_say begin)
+    named b (Err fault) row = subst (λ r. FirstOf (RecordRow x s) r fault.position) (sym row.0) (name_first x s b row.1 row.2)
 
     go : (t : Bool) → StartSays x s header_mark t
-        → RecordSays x s (cond t (end_of (name_from (suc s) 0 (drop (suc s) x))) 0)
-        (cond t (name_checked (name_from (suc s) 0 (drop (suc s) x)) (lines_from (lines_start x s) false 0 (drop (lines_start x s) x)))
-        (RefusedAt NoHeader s))
+        → RecordSays x s (with_lines (cond t (name_from (suc s) 0 (drop (suc s) x)) (refused_at NoHeader s)) found)
     go true b =
         let i : s < length x = b.inside in
         named b (name_from (suc s) 0 (drop (suc s) x)) (name_says x s (length x - suc s) (omega arith))

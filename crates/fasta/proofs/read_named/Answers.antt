@@ -1,10 +1,12 @@
--- `fasta::read_named` meets its contract: the record is read where the checks pass, and then input and buffer have fitting lengths.
+-- `fasta::read_named` meets its contract: the letters of a record that is taken fit.
 -- Assumes nothing.
-use lib.ListN.{length}
-use Rattle.checks.specs.CheckLaws.{reader_passed}
+use Rattle.std.proofs.Common.{rules}
+use Rattle.std.proofs.lemmas.List.{take_rest}
+use Rattle.fasta.proofs.Laws.Accepted.{record_input, record_room}
 use Rattle.fasta.proofs.read_named.Goals as goal
 
-pub read_record-requires : goal.read_record-requires
-read_record-requires c =
-    let passed = reader_passed (length c.args.input.now) (length c.args.letters.now) c.reader-c.ensures.check c.in-Passed.is in
-    record { input_fits = passed.0; letters_fit = passed.1 }
+pub write_letters-requires : goal.write_letters-requires
+write_letters-requires c = rw take_rest (search (rules, record_room))
+
+pub returns-clause-accepted : goal.returns-clause-accepted
+returns-clause-accepted c = record_input c.args.input.now c.in_ok-record.record (search rules)

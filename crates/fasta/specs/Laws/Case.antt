@@ -1,22 +1,21 @@
 -- The reader and the case of letters: what it hands on is a capital, and what it reads is the same up to case.
 -- Assumes nothing.
-use Rattle.std.specs.Prelude.{◌≡◌, refl, Bool, true, false, cond, ◌⊎◌, List, [], ◌∷◌, ℕ, zero, suc, ◌+◌, ◌-◌, ◌≤◌, ◌<◌, eqb, length, get_or, drop}
+use Rattle.std.specs.Prelude.{◌≡◌, refl, Bool, true, false, cond, ◌⊎◌, List, [], ◌∷◌, ℕ, zero, suc, ◌+◌, ◌-◌, ◌≤◌, ◌<◌, eqb, ltb, length, get_or, drop, Result}
 use Rattle.std.proofs.Common.{sym, ap, ap₂, ◌∙◌, inl, inr, arith, ne_eqb}
 use Rattle.std.proofs.Math.Decide.{dec_le}
-use Rattle.answer.specs.declared.Reason.TheVariants.{NoHeader, UnfitByte}
+use Rattle.answer.specs.declared.Reason.TheVariants.{NoHeader, UnfitByte, TooManyLetters}
+use Rattle.answer.specs.Limits.{max_letters}
 use Rattle.fasta_record.specs.declared.bytes.Kind.{Kind}
 use Rattle.fasta_record.specs.declared.bytes.Kind.TheVariants.{Letter, LineEnd, CarriageReturn, HeaderMark, Unfit}
 use Rattle.fasta_record.specs.declared.bytes.NameByte.{NameByte}
 use Rattle.fasta_record.specs.declared.bytes.NameByte.TheVariants.{Part, Past, Foreign}
-use Rattle.fasta_record.specs.declared.name.Name.{Name}
-use Rattle.fasta_record.specs.declared.lines.Ending.{Ending}
-use Rattle.fasta_record.specs.declared.lines.Ending.TheVariants.{RefusedAt}
-use Rattle.fasta_record.specs.declared.lines.Step.{Step}
-use Rattle.fasta_record.specs.declared.lines.Step.TheVariants.{On, Off}
+use Rattle.fasta_record.specs.declared.Fault.{Fault}
+use Rattle.fasta_record.specs.declared.lines.Lines.{Lines}
 use Rattle.fasta_record.specs.Bytes.{within, kind_of, letter_of, name_byte_of, starts_with, header_mark, line_end}
-use Rattle.fasta_record.specs.Name.{name_step, name_from, end_of}
-use Rattle.fasta_record.specs.Lines.{after_line, step_for, lines_from}
-use Rattle.fasta_record.specs.Record.{name_checked, lines_start, record_ending, name_end}
+use Rattle.fasta_record.specs.Fault.{refused_at}
+use Rattle.fasta_record.specs.Name.{name_step, name_from}
+use Rattle.fasta_record.specs.Lines.{after_line, line_step, lines_from}
+use Rattle.fasta_record.specs.Record.{with_lines, lines_start, record_at, name_end}
 use Rattle.fasta.specs.Classes.{IsCapital, IsLetter}
 use Rattle.fasta.specs.Case.{UpToCase, same, lowered, raised, CaseChanged}
 use Rattle.fasta.specs.Letters.{letter_before, letters_in}
@@ -152,7 +151,7 @@ line_same p (more u r) = ap₂ (λ (e : Bool) (q : ℕ). cond e (suc p) q) (one_
 name_same : (p count : ℕ) {s t : List ℕ} → PartsUpToCase s t → name_from p count s ≡ name_from p count t
 name_same p count none = refl
 name_same p count (more u r) =
-    ap₂ (λ (k : NameByte) (rest : Name). name_step k p count rest) (one_name_byte u) (name_same (suc p) (suc count) r)
+    ap₂ (λ (k : NameByte) (rest : Result ℕ Fault). name_step k p count rest) (one_name_byte u) (name_same (suc p) (suc count) r)
 
 letters_same : {s t : List ℕ} → PartsUpToCase s t → letters_in s ≡ letters_in t
 letters_same none = refl
@@ -165,27 +164,22 @@ letters_same (more {a} {b} {s} {t} u r) = ap (λ (k : Kind). letter_before k a (
     go HeaderMark e = e
     go Unfit e = e
 
--- Only what follows CR matters to a step.
-step_same : (k : Kind) (p : ℕ) (inside : Bool) (count : ℕ) {s t : List ℕ} → PartsUpToCase s t → step_for k p inside count s ≡ step_for k p inside count t
-step_same Letter p inside count r = refl
-step_same LineEnd p inside count r = refl
-step_same CarriageReturn p inside count r =
-    ap (λ (e : Bool). cond e (On true count) (Off (RefusedAt UnfitByte p))) (start_same line_end (omega arith) r)
-step_same HeaderMark p inside count r = refl
-step_same Unfit p inside count r = refl
+-- Only what follows CR matters to a step, and what the bytes after it make of the lines.
+step_same : (k : Kind) (p : ℕ) (inside : Bool) (count : ℕ) {s t : List ℕ} {f g : Bool → ℕ → Result Lines Fault} → PartsUpToCase s t →
+    ((i : Bool) (c : ℕ) → f i c ≡ g i c) → line_step k p inside count s f ≡ line_step k p inside count t g
+step_same Letter p inside count r rest =
+    ap (λ (l : Result Lines Fault). cond (ltb count max_letters) l (refused_at TooManyLetters p)) (rest true (suc count))
+step_same LineEnd p inside count r rest = rest false count
+step_same CarriageReturn p inside count r rest =
+    ap₂ (λ (e : Bool) (l : Result Lines Fault). cond e l (refused_at UnfitByte p)) (start_same line_end (omega arith) r) (rest true count)
+step_same HeaderMark p inside count r rest = refl
+step_same Unfit p inside count r rest = refl
 
 lines_same : (p : ℕ) (inside : Bool) (count : ℕ) {s t : List ℕ} → PartsUpToCase s t → lines_from p inside count s ≡ lines_from p inside count t
 lines_same p inside count none = refl
 lines_same p inside count (more {a} {b} {s} {t} u r) =
-    ap (λ (k : Step). after k s) (ap (λ (k : Kind). step_for k p inside count s) (one_kind u) ∙ step_same (kind_of b) p inside count r)
-    ∙ go (step_for (kind_of b) p inside count t) (λ i c. lines_same (suc p) i c r)
-  where
-    after : Step → List ℕ → Ending
-    after k l = elim k [ On i c ↦ lines_from (suc p) i c l | Off e ↦ e ]
-
-    go : (k : Step) → ((i : Bool) (c : ℕ) → lines_from (suc p) i c s ≡ lines_from (suc p) i c t) → after k s ≡ after k t
-    go (On i c) rest = rest i c
-    go (Off e) rest = refl
+    ap (λ (k : Kind). line_step k p inside count s (λ i c. lines_from (suc p) i c s)) (one_kind u)
+    ∙ step_same (kind_of b) p inside count r (λ i c. lines_same (suc p) i c r)
 
 -- Two inputs that are the same up to case,
 module _ {x y : List ℕ} (r : PartsUpToCase x y) (p : ℕ) where
@@ -193,25 +187,21 @@ module _ {x y : List ℕ} (r : PartsUpToCase x y) (p : ℕ) where
   lines_start_same : lines_start x p ≡ lines_start y p
   lines_start_same = line_same p (parts_drop p r)
 
-  -- one way in which it ends,
-  pub ending_same : record_ending x p ≡ record_ending y p
-  ending_same =
-      let named : name_from (suc p) 0 (drop (suc p) x) ≡ name_from (suc p) 0 (drop (suc p) y) = name_same (suc p) 0 (parts_drop (suc p) r) in
-      let ended : lines_from (lines_start x p) false 0 (drop (lines_start x p) x) ≡ lines_from (lines_start y p) false 0 (drop (lines_start y p) y) =
-      lines_same (lines_start x p) false 0 (parts_drop (lines_start x p) r)
-      ∙ ap (λ (q : ℕ). lines_from q false 0 (drop q y)) lines_start_same in
-      ap₂ (λ (h : Bool) (e : Ending). cond h e (RefusedAt NoHeader p)) (start_same header_mark (omega arith) (parts_drop p r))
-      (ap₂ name_checked named ended)
-
-  -- one list of letters,
-  pub letters_of_same : record_letters x p ≡ record_letters y p
-  letters_of_same = letters_same (parts_drop (lines_start x p) r) ∙ ap (λ (q : ℕ). letters_in (drop q y)) lines_start_same
-
-  -- and one end of its name.
+  -- one end of its name, or one refusal of it,
   pub name_end_same : name_end x p ≡ name_end y p
   name_end_same =
-      ap₂ (λ (h : Bool) (n : Name). cond h (end_of n) 0) (start_same header_mark (omega arith) (parts_drop p r))
+      ap₂ (λ (h : Bool) (n : Result ℕ Fault). cond h n (refused_at NoHeader p)) (start_same header_mark (omega arith) (parts_drop p r))
       (name_same (suc p) 0 (parts_drop (suc p) r))
+
+  -- one record,
+  pub record_same : record_at x p ≡ record_at y p
+  record_same =
+      ap₂ with_lines name_end_same
+      (lines_same (lines_start x p) false 0 (parts_drop (lines_start x p) r) ∙ ap (λ (q : ℕ). lines_from q false 0 (drop q y)) lines_start_same)
+
+  -- and one list of letters.
+  pub letters_of_same : record_letters x p ≡ record_letters y p
+  letters_of_same = letters_same (parts_drop (lines_start x p) r) ∙ ap (λ (q : ℕ). letters_in (drop q y)) lines_start_same
 
 -- An input with letters in the other case is the same up to case.
 pub case_parts : {x y : List ℕ} → CaseChanged x y → PartsUpToCase x y

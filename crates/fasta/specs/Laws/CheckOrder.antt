@@ -1,22 +1,21 @@
 -- The reader's answer is the one that the rows give, by what the checks say. The whole, `reader_says`, stands in `proofs/Laws/CheckOrder`.
 -- Assumes nothing.
-use Rattle.std.specs.Prelude.{◌≡◌, refl, Bool, true, false, List, [], ◌∷◌, ℕ, ◌≤◌, ◌<◌, eqb, length}
+use Rattle.std.specs.Prelude.{◌≡◌, refl, Bool, true, false, cond, List, ℕ, ◌≤◌, ◌<◌, eqb, length, Result, Ok, Err}
 use Rattle.std.proofs.Common.{arith, eqb-true}
 use Rattle.std.proofs.lemmas.Bool.{eqb-false}
+use Rattle.std.proofs.lemmas.List.{nil_from_length}
 use Rattle.answer.specs.declared.Reason.{Reason}
 use Rattle.answer.specs.declared.Reason.TheVariants.{ShortOutput, NoLetters, FileTooLong}
-use Rattle.answer.specs.Answers.{accepted_with, refused_if}
 use Rattle.answer.specs.Limits.{max_letters, max_input}
-use Rattle.fasta_record.specs.declared.lines.Ending.{Ending}
-use Rattle.fasta_record.specs.declared.lines.Ending.TheVariants.{RefusedAt, NextRecord, Finished}
-use Rattle.fasta.specs.Reader.{answer_for}
+use Rattle.fasta_record.specs.declared.Fault.{Fault}
+use Rattle.fasta_record.specs.declared.Record.{Record}
+use Rattle.fasta_record.specs.declared.lines.Stop.{Stop}
+use Rattle.fasta_record.specs.declared.lines.Stop.TheVariants.{NextRecord, InputEnd}
+use Rattle.fasta_record.specs.Fault.{refused_at}
+use Rattle.fasta.specs.Reader.{only_stopped, only_found, answer_for}
 use Rattle.fasta.specs.Rows.{sequence_letters, RecordRow, no_letters, Row, short_buffer, long_input, in_record}
 use Rattle.fasta.specs.CheckOrder.{EarlierCheck, FirstOf, Refuses, Accepts, HasAnswer}
-use Rattle.fasta.specs.Laws.RecordRows.{earlier_pass, earlier_position, record_pass, last_only, ReadToEnd, RecordSays}
-
-no_length : (l : List ℕ) → length l ≡ 0 → l ≡ []
-no_length [] e = refl
-no_length (a ∷ l) e = absurd (omega arith)
+use Rattle.fasta.specs.Laws.RecordRows.{earlier_pass, earlier_position, record_pass, last_only, ReadToEnd, LastSays, RecordSays}
 
 module _ (x : List ℕ) (places : ℕ) where
   -- Refusal 4.
@@ -51,7 +50,7 @@ module _ (x : List ℕ) (places : ℕ) where
     none_first : {n c p : ℕ} → ReadToEnd x 0 n c p → c ≡ 0 → FirstOf (RecordRow x 0) NoLetters (length x)
     none_first w z =
         record {
-          holds = no_letters w.ends (no_length (sequence_letters x w.header_end) (omega (arith, w.counted)));
+          holds = no_letters w.ends (nil_from_length (sequence_letters x w.header_end) (omega (arith, w.counted)));
           no_earlier = λ r p h k. omega (arith, last_only w k, earlier_position h (omega (arith, last_only w k)));
         }
 
@@ -60,13 +59,17 @@ module _ (x : List ℕ) (places : ℕ) where
     accepts w n =
         record { no_row = λ r p. record_only (λ k. n (last_only w k).2); header_end = w.header_end; ends = w.ends; counted = w.counted }
 
-    pub answer_says : (n : ℕ) (e : Ending) → RecordSays x 0 n e → HasAnswer x places (answer_for e)
-    answer_says n (RefusedAt r p) f = record_first f
-    answer_says n (NextRecord c p) f = record_first f
-    answer_says n (Finished c p) w = go (eqb c 0) refl
+    pub answer_says : (found : Result Record Fault) → RecordSays x 0 found → HasAnswer x places (answer_for (only_found found))
+    answer_says (Err fault) f = record_first f
+    answer_says (Ok found) h = go found.lines.stop h
       where
-        go : (t : Bool) → eqb c 0 ≡ t → HasAnswer x places (refused_if t NoLetters p (accepted_with c))
-        go true h =
-            let e : p ≡ length x = w.place in
-            rw e (record_first (none_first w (eqb-true c 0 h)))
-        go false h = (accepts w (eqb-false c 0 h), refl)
+        none : ReadToEnd x 0 found.name_end found.lines.count found.lines.position → (t : Bool) → eqb found.lines.count 0 ≡ t
+            → HasAnswer x places (answer_for (cond t (refused_at NoLetters found.lines.position) (Ok found)))
+        none w true z =
+            let e : found.lines.position ≡ length x = w.place in
+            rw e (record_first (none_first w (eqb-true found.lines.count 0 z)))
+        none w false z = (accepts w (eqb-false found.lines.count 0 z), refl)
+
+        go : (t : Stop) → LastSays x 0 found t → HasAnswer x places (answer_for (only_stopped t found))
+        go NextRecord f = record_first f
+        go InputEnd w = none w (eqb found.lines.count 0) refl

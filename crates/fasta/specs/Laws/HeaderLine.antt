@@ -13,7 +13,7 @@ use Rattle.fasta_record.specs.Record.{lines_start}
 use Rattle.fasta.specs.Reader.{record_letters}
 use Rattle.fasta.specs.Rows.{Stands, HeaderEnds, InLines, sequence_letters, LineRow, unfit_byte, second_record, letter_too_many}
 use Rattle.fasta.specs.Laws.SequenceLetters.{letters_filtered, letters_none}
-use Rattle.fasta.specs.Laws.LineRows.{EndingSays, lines_say}
+use Rattle.fasta.specs.Laws.LineRows.{LinesSay, lines_say}
 
 -- A header line ends within the input.
 header_within : {x : List ℕ} {s e : ℕ} → HeaderEnds x s e → e ≤ length x
@@ -96,11 +96,11 @@ row_in_lines (second_record i b l) = i
 row_in_lines (letter_too_many i l c) = i
 
 -- The pass over the sequence lines.
-pub header_lines_say : {x : List ℕ} {s q : ℕ} (b : LinesBegin x s q) → EndingSays x b.header_end (lines_from q false 0 (drop q x))
+pub header_lines_say : {x : List ℕ} {s q : ℕ} (b : LinesBegin x s q) → LinesSay x b.header_end (lines_from q false 0 (drop q x))
 header_lines_say {x} {s} {q} b = go b.place
   where
     go : ((b.header_end ≡ length x) × (q ≡ length x)) ⊎ ((Stands x b.header_end line_end) × (q ≡ suc b.header_end))
-        → EndingSays x b.header_end (lines_from q false 0 (drop q x))
+        → LinesSay x b.header_end (lines_from q false 0 (drop q x))
     go (inl z) =
         rw (drop_of_length-le x {i = q} (omega arith))
         (z.1, (λ k l r w. omega (arith, row_in_lines w)), rw (letters_none x b.header_end q (omega arith)))

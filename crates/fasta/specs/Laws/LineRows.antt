@@ -1,6 +1,6 @@
 -- The pass over the sequence lines ends at the first position at which the condition of a row holds.
 -- Assumes nothing.
-use Rattle.std.specs.Prelude.{◌≡◌, refl, Bool, true, false, cond, List, ℕ, zero, suc, ◌+◌, ◌-◌, ◌≤◌, ◌<◌, ltb, length, get_or, take, drop}
+use Rattle.std.specs.Prelude.{◌≡◌, refl, Bool, true, false, cond, List, ℕ, zero, suc, ◌+◌, ◌-◌, ◌≤◌, ◌<◌, ltb, length, get_or, take, drop, Result, Ok, Err}
 use Rattle.std.proofs.Common.{ap, arith, ltb-true, ltb-false, drop_of_length-le, drop-cons}
 use Rattle.std.proofs.Math.Decide.{dec_lt}
 use Rattle.words.specs.Laws.Numbers.{below_suc}
@@ -9,12 +9,14 @@ use Rattle.answer.specs.declared.Reason.TheVariants.{UnfitByte, SecondRecord, To
 use Rattle.answer.specs.Limits.{max_letters}
 use Rattle.fasta_record.specs.declared.bytes.Kind.{Kind}
 use Rattle.fasta_record.specs.declared.bytes.Kind.TheVariants.{Letter, LineEnd, CarriageReturn, HeaderMark, Unfit}
-use Rattle.fasta_record.specs.declared.lines.Ending.{Ending}
-use Rattle.fasta_record.specs.declared.lines.Ending.TheVariants.{RefusedAt, NextRecord, Finished}
-use Rattle.fasta_record.specs.declared.lines.Step.TheVariants.{On, Off}
+use Rattle.fasta_record.specs.declared.Fault.{Fault}
+use Rattle.fasta_record.specs.declared.lines.Lines.{Lines}
+use Rattle.fasta_record.specs.declared.lines.Stop.{Stop}
+use Rattle.fasta_record.specs.declared.lines.Stop.TheVariants.{NextRecord, InputEnd}
+use Rattle.fasta_record.specs.Fault.{refused_at}
 use Rattle.fasta_record.specs.Bytes.{kind_of, header_mark, line_end, carriage_return, starts_with}
 use Rattle.fasta.specs.Classes.{IsLetter, letter?}
-use Rattle.fasta_record.specs.Lines.{step_for, lines_from}
+use Rattle.fasta_record.specs.Lines.{line_step, lines_from}
 use Rattle.fasta.specs.Rows.{Stands, InLines, LineStart, UnfitAt, other_byte, return_alone, mark_inside, sequence_letters}
 use Rattle.fasta.specs.Rows.{LineRow, unfit_byte, second_record, letter_too_many}
 use Rattle.fasta.specs.Laws.Classes.{KindSays, kind_says, letter_other}
@@ -25,11 +27,16 @@ use Rattle.fasta.specs.Laws.Stands.{StartSays, start_says}
 abbrev pub CleanTo : List ℕ → ℕ → ℕ → Type 0
 CleanTo x e p = (k : ℕ) → k < p → (r : Reason) → ¬ LineRow x e r k
 
--- What an end of the pass says of the lines behind e.
-abbrev pub EndingSays : List ℕ → ℕ → Ending → Type 0
-EndingSays x e (RefusedAt r p) = LineRow x e r p × CleanTo x e p
-EndingSays x e (NextRecord c p) = LineRow x e SecondRecord p × CleanTo x e p
-EndingSays x e (Finished c p) = (p ≡ length x) × CleanTo x e p × (c ≡ length (sequence_letters (take p x) e))
+-- What lines say that stop so, of those behind e.
+abbrev pub StopSays : List ℕ → ℕ → Lines → Stop → Type 0
+StopSays x e lines NextRecord = LineRow x e SecondRecord lines.position × CleanTo x e lines.position
+StopSays x e lines InputEnd =
+    (lines.position ≡ length x) × CleanTo x e lines.position × (lines.count ≡ length (sequence_letters (take lines.position x) e))
+
+-- What the pass says of the lines behind e.
+abbrev pub LinesSay : List ℕ → ℕ → Result Lines Fault → Type 0
+LinesSay x e (Ok lines) = StopSays x e lines lines.stop
+LinesSay x e (Err fault) = LineRow x e fault.reason fault.position × CleanTo x e fault.position
 
 -- Whether p is inside a line.
 abbrev pub InsideSays : List ℕ → ℕ → Bool → Type 0
@@ -99,13 +106,13 @@ module _ (x : List ℕ) (e p : ℕ) where
   return_fits b s r (letter_too_many i l c) = letter_other (get_or x p 0) carriage_return (omega arith) l b
 
 module _ (x : List ℕ) (e p : ℕ) (inside : Bool) (count : ℕ) (within : p < length x) (at : Reached x e p inside count)
-    (rest : (i : Bool) (c : ℕ) → Reached x e (suc p) i c → EndingSays x e (lines_from (suc p) i c (drop (suc p) x))) where
+    (rest : (i : Bool) (c : ℕ) → Reached x e (suc p) i c → LinesSay x e (lines_from (suc p) i c (drop (suc p) x))) where
   here : InLines x e p
   here = record { behind = at.behind; inside = within }
 
   -- The pass goes on.
   on : (i : Bool) (c : ℕ) → InsideSays x (suc p) i → c ≡ length (sequence_letters (take (suc p) x) e) → ((r : Reason) → ¬ LineRow x e r p)
-      → EndingSays x e (lines_from (suc p) i c (drop (suc p) x))
+      → LinesSay x e (lines_from (suc p) i c (drop (suc p) x))
   on i c l n fits =
       rest i c
       (record {
@@ -116,12 +123,11 @@ module _ (x : List ℕ) (e p : ℕ) (inside : Bool) (count : ℕ) (within : p < 
       })
 
   lines_step : (k : Kind) → KindSays (get_or x p 0) k
-      → EndingSays x e (elim (step_for k p inside count (drop (suc p) x)) [ On i c ↦ lines_from (suc p) i c (drop (suc p) x) | Off z ↦ z ])
+      → LinesSay x e (line_step k p inside count (drop (suc p) x) (λ i c. lines_from (suc p) i c (drop (suc p) x)))
   lines_step Letter l = go (ltb count max_letters) refl
     where
       go : (t : Bool) → ltb count max_letters ≡ t
-          → EndingSays x e
-          (elim (cond t (On true (suc count)) (Off (RefusedAt TooManyLetters p))) [ On i c ↦ lines_from (suc p) i c (drop (suc p) x) | Off z ↦ z ])
+          → LinesSay x e (cond t (lines_from (suc p) true (suc count) (drop (suc p) x)) (refused_at TooManyLetters p))
       go true h =
           let few : count < max_letters = ltb-true count max_letters h in
           let n : count ≡ length (sequence_letters (take p x) e) = at.counted in
@@ -137,8 +143,7 @@ module _ (x : List ℕ) (e p : ℕ) (inside : Bool) (count : ℕ) (within : p < 
   lines_step CarriageReturn b = go (starts_with line_end (drop (suc p) x)) (start_says x (suc p) line_end)
     where
       go : (t : Bool) → StartSays x (suc p) line_end t
-          → EndingSays x e
-          (elim (cond t (On true count) (Off (RefusedAt UnfitByte p))) [ On i c ↦ lines_from (suc p) i c (drop (suc p) x) | Off z ↦ z ])
+          → LinesSay x e (cond t (lines_from (suc p) true count (drop (suc p) x)) (refused_at UnfitByte p))
       go true s =
           on true count (behind_other x p (λ c. omega arith))
           (omega (arith, at.counted, letters_same x e p at.behind within (λ l. letter_other (get_or x p 0) carriage_return (omega arith) l b)))
@@ -147,8 +152,7 @@ module _ (x : List ℕ) (e p : ℕ) (inside : Bool) (count : ℕ) (within : p < 
   lines_step HeaderMark b = go inside at.line
     where
       go : (i : Bool) → InsideSays x p i
-          → EndingSays x e
-          (elim (cond i (Off (RefusedAt UnfitByte p)) (Off (NextRecord count p))) [ On i c ↦ lines_from (suc p) i c (drop (suc p) x) | Off z ↦ z ])
+          → LinesSay x e (cond i (refused_at UnfitByte p) (Ok (record { count = count; stop = NextRecord; position = p })))
       go true n = (unfit_byte here (mark_inside b n), at.clean)
       go false s = (second_record here b s, at.clean)
   lines_step Unfit n = (unfit_byte here (other_byte n.0 n.1 n.2 n.3), at.clean)
@@ -156,7 +160,7 @@ module _ (x : List ℕ) (e p : ℕ) (inside : Bool) (count : ℕ) (within : p < 
 -- The pass from p on, over d bytes.
 pub lines_say :
     (x : List ℕ) (e d p : ℕ) (inside : Bool) (count : ℕ) → p + d ≡ length x → Reached x e p inside count
-    → EndingSays x e (lines_from p inside count (drop p x))
+    → LinesSay x e (lines_from p inside count (drop p x))
 lines_say x e zero p inside count h at =
     rw (drop_of_length-le x {i = p} (omega arith)) (omega arith, at.clean, at.counted)
 lines_say x e (suc d) p inside count h at =

@@ -1,11 +1,12 @@
 -- The pass over a name ends at the first position at which the condition of row 10 holds. Here what is known of row 10 by itself; what rests on
 -- the whole of it stands in `proofs/Laws/NameRows`.
 -- Assumes nothing.
-use Rattle.std.specs.Prelude.{◌≡◌, refl, Bool, true, false, cond, List, ℕ, suc, ◌+◌, ◌≤◌, ◌<◌, eqb, length, get_or}
+use Rattle.std.specs.Prelude.{◌≡◌, refl, Bool, true, false, cond, List, ℕ, suc, ◌+◌, ◌≤◌, ◌<◌, eqb, length, get_or, Result, Ok, Err}
 use Rattle.std.proofs.Common.{inl, inr, arith, eqb-true}
 use Rattle.std.proofs.lemmas.Bool.{eqb-false}
-use Rattle.fasta_record.specs.declared.name.Name.{Name}
-use Rattle.fasta_record.specs.declared.name.Name.TheVariants.{Named, Misnamed}
+use Rattle.answer.specs.declared.Reason.TheVariants.{BadName}
+use Rattle.fasta_record.specs.declared.Fault.{Fault}
+use Rattle.fasta_record.specs.Fault.{refused_at}
 use Rattle.fasta.specs.Classes.{InName}
 use Rattle.fasta_record.specs.Name.{max_name, name_over}
 use Rattle.fasta.specs.Rows.{NameUpTo, NameOver, NameEnds, BadNameAt, empty, too_long, foreign}
@@ -16,9 +17,9 @@ abbrev pub NameRow : List ℕ → ℕ → ℕ → Type 0
 NameRow x s p = NameUpTo x s p × BadNameAt x s p
 
 -- What is found of the name behind the '>' at s.
-abbrev pub NameSays : List ℕ → ℕ → Name → Type 0
-NameSays x s (Named p) = NameEnds x s p
-NameSays x s (Misnamed p) = NameRow x s p × ((k : ℕ) → k < p → ¬ NameRow x s k)
+abbrev pub NameSays : List ℕ → ℕ → Result ℕ Fault → Type 0
+NameSays x s (Ok p) = NameEnds x s p
+NameSays x s (Err fault) = (fault.reason ≡ BadName) × NameRow x s fault.position × ((k : ℕ) → k < fault.position → ¬ NameRow x s k)
 
 -- A byte of a name is not where it is over.
 pub in_name_not_over : (x : List ℕ) (p : ℕ) → p < length x → InName (get_or x p 0) → ¬ NameOver x p
@@ -53,8 +54,8 @@ pub record NameReached (x : List ℕ) (s p count : ℕ) : Type 0 where
 pub over_says : (x : List ℕ) (s p count : ℕ) → NameReached x s p count → NameOver x p → NameSays x s (name_over p count)
 over_says x s p count at over = go (eqb count 0) refl
   where
-    go : (t : Bool) → eqb count 0 ≡ t → NameSays x s (cond t (Misnamed p) (Named p))
-    go true h = ((at.up_to, empty (omega (arith, at.place, eqb-true count 0 h)) over), at.clean)
+    go : (t : Bool) → eqb count 0 ≡ t → NameSays x s (cond t (refused_at BadName p) (Ok p))
+    go true h = (refl, (at.up_to, empty (omega (arith, at.place, eqb-true count 0 h)) over), at.clean)
     go false h =
         let n : ¬ (count ≡ 0) = eqb-false count 0 h in
         let e : p ≡ suc s + count = at.place in

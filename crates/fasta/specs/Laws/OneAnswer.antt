@@ -1,11 +1,11 @@
 -- The rows of the reader give at most one answer.
 -- Assumes nothing.
-use Rattle.std.specs.Prelude.{◌≡◌, List, [], ◌∷◌, ℕ, ◌<◌, length, get_or}
+use Rattle.std.specs.Prelude.{◌≡◌, List, [], ◌∷◌, ℕ, ◌<◌, length, get_or, Result, Ok, Err}
 use Rattle.std.proofs.Math.Path.{refl}
 use Rattle.std.proofs.Common.{sym, ap, ap₂, subst, ◌∙◌, arith}
+use Rattle.answer.specs.declared.Accepted.{Accepted}
 use Rattle.answer.specs.declared.Answer.{Answer}
-use Rattle.answer.specs.declared.Outcome.{Outcome}
-use Rattle.answer.specs.declared.Outcome.TheVariants.{Accepted, Refused}
+use Rattle.answer.specs.declared.Refusal.{Refusal}
 use Rattle.answer.specs.declared.Reason.{Reason}
 use Rattle.answer.specs.declared.Reason.TheVariants.{EmptyText, TextTooLong, UnknownOrder, WrongTable, ShortOutput, ShortWork, ZeroEntry, CrossingSpans}
 use Rattle.answer.specs.declared.Reason.TheVariants.{NoHeader, BadName, UnfitByte, NoLetters, FileTooLong, NotLyndon, UnknownTable, UnwrittenTable}
@@ -18,6 +18,10 @@ use Rattle.fasta.specs.Laws.Classes.{letter_other}
 use Rattle.fasta.specs.Laws.LineRows.{unfit_no_letter}
 use Rattle.fasta.specs.Laws.HeaderLine.{header_unique}
 use Rattle.fasta.specs.Laws.RecordRows.{line_pass}
+
+-- A refused outcome, with the reason and the position.
+abbrev refused : Reason → ℕ → Result Accepted Refusal
+refused r p = Err (record { reason = r; position = p })
 
 -- The first reason of each pass.
 pass_reason : ℕ → Reason
@@ -67,7 +71,7 @@ module _ (x : List ℕ) (places : ℕ) where
   same_reason e (alone f n) (alone g m) = f ∙ ap pass_reason e ∙ sym g
 
   -- There are not two first rows.
-  refuses_unique : {r r' : Reason} {p p' : ℕ} → Refuses x places r p → Refuses x places r' p' → Refused r p ≡ Refused r' p'
+  refuses_unique : {r r' : Reason} {p p' : ℕ} → Refuses x places r p → Refuses x places r' p' → refused r p ≡ refused r' p'
   refuses_unique {r} {r'} {p} {p'} f g =
       let a : ¬ EarlierCheck r p r' p' = λ h. g.no_earlier r p h f.holds in
       let b : ¬ EarlierCheck r' p' r p = λ h. f.no_earlier r' p' h g.holds in
@@ -77,16 +81,16 @@ module _ (x : List ℕ) (places : ℕ) where
       let left : ¬ (p < p') = λ h. a (by_position m h) in
       let right : ¬ (p' < p) = λ h. b (by_position (sym m) h) in
       let n : p ≡ p' = omega arith in
-      ap₂ Refused (same_reason m (subst (λ q. Placed x r q) n (placed f.holds)) (placed g.holds)) n
+      ap₂ refused (same_reason m (subst (λ q. Placed x r q) n (placed f.holds)) (placed g.holds)) n
 
-  outcome_unique : (o o' : Outcome) → HasOutcome x places o → HasOutcome x places o' → o ≡ o'
-  outcome_unique (Accepted c q) (Accepted c' q') (h, e) (k, f) =
-      ap₂ Accepted
+  outcome_unique : (o o' : Result Accepted Refusal) → HasOutcome x places o → HasOutcome x places o' → o ≡ o'
+  outcome_unique (Ok accepted) (Ok other) (h, e) (k, f) =
+      ap₂ (λ (c q : ℕ). Ok (record { count = c; comparisons = q }))
       (h.counted ∙ ap (λ (i : ℕ). length (sequence_letters x i)) (header_unique h.ends k.ends) ∙ sym k.counted)
       (e ∙ sym f)
-  outcome_unique (Accepted c q) (Refused r p) h k = absurd (h.0.no_row r p k.holds)
-  outcome_unique (Refused r p) (Accepted c q) h k = absurd (k.0.no_row r p h.holds)
-  outcome_unique (Refused r p) (Refused r' p') h k = refuses_unique h k
+  outcome_unique (Ok accepted) (Err refusal) h k = absurd (h.0.no_row refusal.reason refusal.position k.holds)
+  outcome_unique (Err refusal) (Ok accepted) h k = absurd (k.0.no_row refusal.reason refusal.position h.holds)
+  outcome_unique (Err refusal) (Err other) h k = refuses_unique h k
 
   pub answer_unique : {a b : Answer} → HasAnswer x places a → HasAnswer x places b → a ≡ b
   answer_unique {a} {b} h k = λ i. record { outcome = outcome_unique a.outcome b.outcome h k i }

@@ -1,11 +1,13 @@
 -- How a record ends is the first of its rows whose condition holds. Here the header and the name; the rest stands in `proofs/Laws/RecordRows`.
 -- Assumes nothing.
-use Rattle.std.specs.Prelude.{◌≡◌, refl, List, ℕ, ◌≤◌, ◌<◌, length}
+use Rattle.std.specs.Prelude.{◌≡◌, refl, List, ℕ, ◌≤◌, ◌<◌, length, Result, Ok, Err}
 use Rattle.std.proofs.Common.{ap, ◌∙◌, arith}
 use Rattle.answer.specs.declared.Reason.{Reason}
 use Rattle.answer.specs.declared.Reason.TheVariants.{NoHeader, BadName, UnfitByte, SecondRecord, NoLetters}
-use Rattle.fasta_record.specs.declared.lines.Ending.{Ending}
-use Rattle.fasta_record.specs.declared.lines.Ending.TheVariants.{RefusedAt, NextRecord, Finished}
+use Rattle.fasta_record.specs.declared.Fault.{Fault}
+use Rattle.fasta_record.specs.declared.Record.{Record}
+use Rattle.fasta_record.specs.declared.lines.Stop.{Stop}
+use Rattle.fasta_record.specs.declared.lines.Stop.TheVariants.{NextRecord, InputEnd}
 use Rattle.fasta_record.specs.Bytes.{header_mark}
 use Rattle.fasta.specs.Rows.{Stands, NameEnds, HeaderEnds, sequence_letters, LineRow, unfit_byte, second_record, letter_too_many}
 use Rattle.fasta.specs.Rows.{RecordRow, no_header, bad_name, in_lines, no_letters}
@@ -54,11 +56,15 @@ last_only {k = k} {r = r} w (in_lines i l) = absurd (w.no_earlier r k (omega (ar
 last_only {x} w (no_letters i m) =
     (refl, refl, w.counted ∙ ap (λ (e : ℕ). length (sequence_letters x e)) (header_unique w.ends i) ∙ ap length m)
 
--- What an end of a record says of its rows, where the name is found to end at n.
-abbrev pub RecordSays : List ℕ → ℕ → ℕ → Ending → Type 0
-RecordSays x s n (RefusedAt r p) = FirstOf (RecordRow x s) r p
-RecordSays x s n (NextRecord c p) = FirstOf (RecordRow x s) SecondRecord p
-RecordSays x s n (Finished c p) = ReadToEnd x s n c p
+-- What a record whose lines stop so says of the rows of the one that starts at s.
+abbrev pub LastSays : List ℕ → ℕ → Record → Stop → Type 0
+LastSays x s found NextRecord = FirstOf (RecordRow x s) SecondRecord found.lines.position
+LastSays x s found InputEnd = ReadToEnd x s found.name_end found.lines.count found.lines.position
+
+-- What is found of a record says of its rows.
+abbrev pub RecordSays : List ℕ → ℕ → Result Record Fault → Type 0
+RecordSays x s (Ok found) = LastSays x s found found.lines.stop
+RecordSays x s (Err fault) = FirstOf (RecordRow x s) fault.reason fault.position
 
 module _ (x : List ℕ) (s : ℕ) where
   -- Refusal 9.

@@ -1,26 +1,28 @@
--- `left_forest::left_forest_ranked` meets its contract: the checks give the answer, and the forest is written where they pass.
+-- `left_forest::left_forest_ranked` meets its contract: the checks give the answer, and what each pass leaves is what the next one asks for.
 -- Assumes nothing.
-use native.Mathlib.Omega.{arith}
-use lib.ListN.{length}
-use Rattle.checks.specs.CheckLaws.{ranked_forest_passed}
-use Rattle.answer.specs.ContentLaws.{sized_room}
+use Rattle.left_forest.proofs.Growing.{ranked_linkable, ranked_descends, ranked_first, ranked_past}
 use Rattle.left_forest.proofs.left_forest_ranked.Goals as goal
 
--- What is known where the checks pass.
-pub grow-requires : goal.grow-requires
-grow-requires c =
-    let passed = ranked_forest_passed (length c.args.text.now) c.args.order (length c.args.table.now) (length c.args.first.now) (length c.args.past.now)
-    c.ranked_forest-c.ensures.check c.in-Passed.is in
-    record {
-      some = passed.0.some;
-      in_first = sized_room passed.0 passed.3;
-      in_past = sized_room passed.0 passed.4;
-      named = passed.1;
-      fits = passed.2;
-    }
+-- PAST holds the suffix table.
+pub link-last-requires : goal.link-last-requires
+link-last-requires c =
+    let passed = c.in_default.ensures.passed in
+    ranked_linkable _ _ _ _ _ _ passed.0 passed.3 passed.4 c.in_default-outcome.is c.suffix_table_ranked.ensures.content
 
-pub overflow_cast-n : goal.overflow_cast-n
-overflow_cast-n c =
-    let passed = ranked_forest_passed (length c.args.text.now) c.args.order (length c.args.table.now) (length c.args.first.now) (length c.args.past.now)
-    c.ranked_forest-c.ensures.check c.in-Passed.is in
-    omega (arith, passed.0.short)
+pub mark_roots-requires : goal.mark_roots-requires
+mark_roots-requires c =
+    let passed = c.in_default.ensures.passed in
+    ranked_descends _ _ _ _ _ _ passed.0 passed.3 passed.4 c.in_default-outcome.is c.suffix_table_ranked.ensures.content
+    _ _ _ c.link-last.ensures.content
+
+pub returns-clause-starts : goal.returns-clause-starts
+returns-clause-starts c =
+    let passed = c.in_default.ensures.passed in
+    ranked_first _ _ _ _ _ _ passed.0 passed.3 passed.4 c.in_default-outcome.is c.suffix_table_ranked.ensures.content
+    _ _ _ c.link-last.ensures.content _ _ c.mark_roots.ensures.starts c.mark_roots.ensures.ends c.accept.ensures.answer
+
+pub returns-clause-ends : goal.returns-clause-ends
+returns-clause-ends c =
+    let passed = c.in_default.ensures.passed in
+    ranked_past _ _ _ _ _ _ passed.0 passed.3 passed.4 c.in_default-outcome.is c.suffix_table_ranked.ensures.content
+    _ _ _ c.link-last.ensures.content _ _ c.mark_roots.ensures.starts c.mark_roots.ensures.ends c.accept.ensures.answer

@@ -1,10 +1,6 @@
 -- `listing::write_record` meets its contract: the run call accepts the letters, its list holds their runs, and there is room for their lines.
 -- Assumes nothing.
-use mathlib.Core.Path.{◌≡◌, ap, ◌∙◌}
-use mathlib.Core.List.{List}
-use Prim.Native.Nat.{ℕ, ◌*◌, ◌≤◌, ◌<◌}
-use native.Mathlib.Omega.{arith}
-use lib.ListN.{length}
+use Rattle.std.proofs.Common.{◌≡◌, ap, ◌∙◌, ℕ, ◌*◌, ◌≤◌, ◌<◌, List, length, arith}
 use Rattle.answer.specs.declared.Answer.{Answer}
 use Rattle.answer.specs.Answers.{accepted_with, value}
 use Rattle.answer.specs.AfterCall.{written, content_after}
@@ -29,19 +25,16 @@ pub returns : goal.returns
 returns c =
     let name = c.args.name.now in
     let x = c.args.letters.now in
-    let list = c.args.list.now in
-    let found : c.runs-answer.result ≡ accepted_with (length (run_list x)) =
-    c.runs-answer.ensures.answer
-    ∙ runs_found x (length c.args.work.now) (length list) c.requires.some_letters c.requires.letters_fit c.requires.work_fits c.requires.list_length in
-    let held : c.runs-answer.new.list ≡ written (run_numbers x) list =
-    c.runs-answer.ensures.entries ∙ ap (λ (a : Answer). content_after a (run_numbers x) list) found in
+    let list = c.runs.new.list in
+    let found : c.runs.result ≡ accepted_with (length (run_list x)) =
+    c.runs.ensures.answer ∙ runs_found x _ _ c.requires.some_letters c.requires.letters_fit (omega arith) (omega arith) in
+    let held : list ≡ written (run_numbers x) _ = c.runs.ensures.entries ∙ ap (λ (a : Answer). content_after a (run_numbers x) _) found in
     let count : c.value-count.result ≡ length (run_list x) = c.value-count.ensures.value ∙ ap value found in
-    let within : 3 * c.value-count.result ≤ length c.runs-answer.new.list = runs_within x _ list _ count held in
-    let room : max_line * c.value-count.result ≤ length c.args.out.now =
-    omega (arith, within, c.runs-answer.auto.list, c.requires.list_length, c.requires.listing_fits) in
+    let within : 3 * c.value-count.result ≤ length list = runs_within x _ _ _ count held in
+    let room : max_line * c.value-count.result ≤ length c.args.out.now = omega arith in
     record {
       content =
           written_as c.write_lines.ensures.content
-          (lines_fit name c.runs-answer.new.list c.value-count.result (length c.args.out.now) c.requires.name_fits within room
-          ∙ ap (bed_lines name) (entries_held x _ list _ count held));
+          (lines_fit name list c.value-count.result (length c.args.out.now) c.requires.name_fits within room ∙
+          ap (bed_lines name) (entries_held x _ _ _ count held));
     }

@@ -7,8 +7,8 @@ use Rattle.words.specs.Runs.{Entry, numbers}
 use Rattle.words.specs.Laws.Runs.{numbers_length}
 use Rattle.answer.specs.declared.Reason.{Reason}
 use Rattle.answer.specs.declared.Reason.TheVariants.{FileTooLong}
-use Rattle.answer.specs.declared.Outcome.{Outcome}
-use Rattle.answer.specs.declared.Outcome.TheVariants.{Accepted, Refused}
+use Rattle.answer.specs.declared.Answer.{Answer}
+use Rattle.answer.specs.Answers.{accepted_after, refused_for}
 use Rattle.answer.specs.AfterCall.{written}
 use Rattle.answer.specs.Reasons.{number_of}
 use Rattle.answer.specs.Limits.{max_letters, max_input}
@@ -34,15 +34,11 @@ module _ (x list before : List ℕ) (count : ℕ) (counted : count ≡ length (r
   runs_within =
       omega (arith, counted, ap length held, length-append (run_numbers x) (drop (length (run_numbers x)) before), numbers_length (run_list x))
 
--- What is printed for an accepted input.
-pub listing_accepted : (x : List ℕ) (count : ℕ) {comparisons : ℕ} → (reader_answer x max_letters).outcome ≡ Accepted count comparisons → listing_of x ≡ record_listing x 0
-listing_accepted x count e = ap (λ (o : Outcome). listing_for o x) e
-
 -- What is printed for a refused input.
 pub listing_refused :
-    (x : List ℕ) (reason : Reason) (position : ℕ) → (reader_answer x max_letters).outcome ≡ Refused reason position
+    (x : List ℕ) (reason : Reason) (position : ℕ) → reader_answer x max_letters ≡ refused_for reason position
     → listing_of x ≡ refusal_line (number_of reason) position
-listing_refused x reason position e = ap (λ (o : Outcome). listing_for o x) e
+listing_refused x reason position e = ap (λ (a : Answer). listing_for a.outcome x) e
 
 -- An input over the limit is refused for its size, whatever it holds.
 pub listing_long : (x : List ℕ) → max_input < length x → listing_of x ≡ refusal_line (number_of FileTooLong) max_input

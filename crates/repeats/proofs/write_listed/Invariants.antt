@@ -1,14 +1,11 @@
--- `repeats::write_listed` meets its contract. The loop's invariant: the first bytes are written.
+-- `repeats::write_listed` meets its contract. The loop's invariant: once the rest is written, all is.
 -- Assumes nothing.
-use Rattle.std.proofs.Common.{length, take, ◌-◌, ◌≤◌}
+use Rattle.std.proofs.Common.{ℕ, List, length, Option}
 use Rattle.std.specs.Io.KnownBytes.{Appends}
 use Rattle.repeats.proofs.write_listed.Given as goal
 
-abbrev pub invariant-loop-done : goal.invariant-loop-done
-invariant-loop-done g l = record {
-  inside : l.done ≤ length l.listed;
-  bytes : Appends (g.W.Write.contents l.initial.to) (g.W.Write.contents l.to) (take l.done l.listed);
-}
+abbrev pub invariant-loop-rest : goal.invariant-loop-rest
+invariant-loop-rest g l = (q : Option (List ℕ)) → Appends (g.W.Write.contents l.to) q l.rest → Appends (g.W.Write.contents l.initial.to) q l.listed
 
-abbrev pub decreases-loop-done : goal.decreases-loop-done
-decreases-loop-done g l = length l.listed - l.done
+abbrev pub decreases-loop-rest : goal.decreases-loop-rest
+decreases-loop-rest g l = length l.rest

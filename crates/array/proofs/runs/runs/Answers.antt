@@ -1,19 +1,11 @@
--- `array::runs::runs` meets its contract: the answer is that of the checks, and the keys are the letters' own numbers.
+-- `array::runs::runs` meets its contract: the keys are the letters' own numbers, so that the runs by them are those of the text.
 -- Assumes nothing.
 use Rattle.letters.specs.RankLaws.{fitting_bytes}
-use Rattle.array.proofs.AnswerLaws.{runs_ready, no_bytes, ranked_keys, plain_row, found_as}
+use Rattle.array.proofs.AnswerLaws.{plain_row, found_as}
 use Rattle.array.proofs.runs.runs.Goals as goal
-
-pub answered-requires : goal.answered-requires
-answered-requires c =
-    let table = no_bytes in
-    record { bytes = search ranked_keys; ready_where = search runs_ready }
 
 pub returns : goal.returns
 returns c =
-    let text = fitting_bytes c.type_inv.text in
-    let keys = c.rank_table.ensures.content in
-    let found =
-    found_as _ _ _ _ _ _ (λ e. plain_row _ text _ keys) c.answered.ensures.answer c.answered.ensures.entries c.answered.ensures.arrays c.runs-c.ensures.check
-    in
-    record { answer = found.0; entries = found.1.0; arrays = found.1.1 }
+    let row = plain_row _ _ (fitting_bytes c.type_inv.text) c.rank_table-keys.ensures.content in
+    let found = found_as _ _ _ _ _ _ _ row c.find-count.ensures.content c.accept.ensures.answer c.in_default.ensures.check in
+    record { answer = found.0; entries = found.1; arrays = found.2 }

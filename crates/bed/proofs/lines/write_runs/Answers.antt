@@ -1,43 +1,48 @@
--- `bed::lines::write_runs` meets its contract: each turn writes the line of one run, and at the end none is pending.
+-- `bed::lines::write_runs` meets its contract: each turn writes the line of one run more.
 -- Assumes nothing.
-use mathlib.Core.Path.{◌∙◌}
-use mathlib.Core.List.{List}
-use Prim.Native.Nat.{ℕ, ◌+◌, ◌≤◌, ◌<◌, ◌^◌}
+use mathlib.Core.Path.{◌≡◌, sym, ap, ◌∙◌}
+use mathlib.Core.List.{List, [], ◌∷◌, ◌++◌, map}
+use Prim.Native.Nat.{ℕ, ◌+◌, ◌<◌}
 use native.Mathlib.Omega.{arith}
-use lib.ListN.{length, get_or, drop}
-use Rattle.answer.specs.ContentLaws.{pending_rest, pending_none}
-use Rattle.fasta_record.specs.Name.{max_name}
-use Rattle.bed.specs.Bed.{bed_line, entry_with}
-use Rattle.bed.specs.Limits.{max_line}
-use Rattle.bed.specs.Laws.Bed.{line_length, lines_next, lines_none}
+use lib.ListN.{length, get_or, take}
+use Rattle.std.proofs.Common.{rules, take_all}
+use Rattle.std.proofs.lemmas.List.{take_more, map-append}
+use Rattle.bed.specs.Bed.{bed_line, bed_lines, entry_in}
+use Rattle.bed.specs.Text.{wrote_none, wrote_then, wrote_as, wrote_size, wrote_all}
+use Rattle.bed.specs.Laws.Bed.{line_length, lines_more}
 use Rattle.bed.proofs.lines.write_runs.Goals as goal
 
--- The line of the run at a place of a list of 32-bit numbers fits its limit.
-line_fits : (name runs : List ℕ) (from : ℕ) → length name ≤ max_name → ((i : ℕ) → get_or runs i 0 < 2 ^ 32) →
-    length (bed_line name (entry_with (get_or runs from 0) (get_or runs (from + 1) 0) (get_or runs (from + 2) 0))) ≤ max_line
-line_fits name runs from h known =
-    line_length name (get_or runs from 0) (get_or runs (from + 1) 0) (get_or runs (from + 2) 0) h (known from) (known (from + 1)) (known (from + 2))
+-- The line of the run at place i of a list of rows, behind those of the runs before.
+next_line : (name : List ℕ) (runs : List (List ℕ)) (i : ℕ) → i < length runs →
+    bed_lines name (map entry_in (take (i + 1) runs)) ≡ bed_lines name (map entry_in (take i runs)) ++ bed_line name (entry_in (get_or runs i []))
+next_line name runs i h =
+    ap (λ (rs : List (List ℕ)). bed_lines name (map entry_in rs)) (take_more runs i [] h)
+    ∙ ap (bed_lines name) (map-append entry_in (take i runs) (get_or runs i [] ∷ []))
+    ∙ lines_more name (map entry_in (take i runs)) (entry_in (get_or runs i []))
 
-pub write_line-next-requires : goal.write_line-next-requires
-write_line-next-requires c =
-    let line = line_fits c.args.name.now c.args.runs.now c.loop-left.from c.requires.name_fits (λ i. omega (arith, c.type_inv.runs i)) in
-    omega (arith, line, c.loop-left-test.true, c.loop-left.invariant.1)
+pub loop-start-init : goal.loop-start-init
+loop-start-init c = record { wrote = wrote_none c.new-text.result (omega arith); within = omega arith }
 
-pub loop-left-preserved : goal.loop-left-preserved
-loop-left-preserved c =
-    let line = line_fits c.args.name.now c.args.runs.now c.loop-left.from c.requires.name_fits (λ i. omega (arith, c.type_inv.runs i)) in
-    let some : 0 < c.loop-left.left = omega (arith, c.loop-left-test.true) in
-    let called = c.write_line-next in (
-      omega arith,
-      omega (arith, line, called.ensures.content.past, called.auto.out, c.loop-left.invariant.1),
-      called.auto.out ∙ c.loop-left.invariant.2,
-      pending_rest (rw (lines_next c.args.name.now c.loop-left.left c.loop-left.from c.args.runs.now some) at c.loop-left.invariant.3) called.ensures.content,
-    )
+pub write_line-requires : goal.write_line-requires
+write_line-requires c =
+    let run : List ℕ = get_or c.args.runs.now c.loop-start.start-index [] in
+    let line = line_length c.args.name.now (get_or run 0 0) (get_or run 1 0) (get_or run 2 0) c.requires.name_fits (search rules) (search rules) (search rules) in
+    omega (arith, line, wrote_size c.loop-start.invariant.wrote, ap length c.new-text.ensures.bytes)
+
+pub loop-start-preserved : goal.loop-start-preserved
+loop-start-preserved c =
+    let run : List ℕ = get_or c.args.runs.now c.loop-start.start-index [] in
+    let line = line_length c.args.name.now (get_or run 0 0) (get_or run 1 0) (get_or run 2 0) c.requires.name_fits (search rules) (search rules) (search rules) in
+    record {
+      wrote = wrote_as (wrote_then c.loop-start.invariant.wrote c.write_line.ensures.wrote)
+          (sym (next_line c.args.name.now c.args.runs.now c.loop-start.start-index c.loop-start-test.true));
+      within = omega (arith, line, c.write_line.ensures.wrote.written.past);
+    }
 
 pub returns : goal.returns
 returns c =
-    record {
-      content =
-          pending_none (rw (lines_none c.args.name.now c.loop-left.left (drop c.loop-left.from c.args.runs.now) c.loop-left-test.false) at c.loop-left.invariant.3)
-          (omega (arith, c.loop-left.invariant.1));
-    }
+    let all : bed_lines c.args.name.now (map entry_in (take c.loop-start.start-index c.args.runs.now)) ≡ bed_lines c.args.name.now (map entry_in c.args.runs.now) =
+    ap (λ (rs : List (List ℕ)). bed_lines c.args.name.now (map entry_in rs)) (take_all c.loop-start.start-index c.args.runs.now (omega arith))
+    in
+    let written = wrote_all c.loop-start.invariant.wrote c.new-text.ensures.bytes c.new-text.ensures.none all in
+    record { content = search rules }

@@ -1,18 +1,18 @@
--- `bed::lines::write_runs` meets its contract. The loop's invariant: the lines of the runs that are left are pending, and there is room for them.
+-- `bed::lines::write_runs` meets its contract. The loop's invariant: the lines of the runs so far are written, none longer than the limit.
 -- Assumes nothing.
-use mathlib.Core.Path.{◌≡◌}
-use Prim.Native.Nat.{◌+◌, ◌*◌, ◌≤◌}
-use lib.ListN.{length, drop}
-use Rattle.answer.specs.Content.{Pending}
-use Rattle.bed.specs.Bed.{bed_lines, entries_of}
+use mathlib.Core.List.{List, map}
+use Prim.Native.Nat.{ℕ, ◌*◌, ◌≤◌}
+use lib.ListN.{take}
+use Rattle.bed.specs.declared.text.Text.{Text}
+use Rattle.bed.specs.Bed.{bed_lines, entry_in}
 use Rattle.bed.specs.Limits.{max_line}
+use Rattle.bed.specs.Text.{Wrote}
 use Rattle.bed.proofs.lines.write_runs.Given as goal
 
-abbrev pub invariant-loop-left : goal.invariant-loop-left
-invariant-loop-left l = (l.from + 3 * l.left ≤ length l.runs)
-    × (l.next + max_line * l.left ≤ length l.out)
-    × (length l.out ≡ length l.initial.out)
-    × Pending l.out l.next (bed_lines l.name (entries_of l.left (drop l.from l.runs))) l.initial.out 0 (bed_lines l.name (entries_of l.count l.runs))
+-- What the loop keeps.
+pub record LinesWritten (name : List ℕ) (runs : List (List ℕ)) (first now : Text) (i : ℕ) : Type 0 where
+  pub wrote : Wrote first now (bed_lines name (map entry_in (take i runs)))
+  pub within : now.len ≤ max_line * i
 
-abbrev pub decreases-loop-left : goal.decreases-loop-left
-decreases-loop-left l = l.left
+abbrev pub invariant-loop-start : goal.invariant-loop-start
+invariant-loop-start l = LinesWritten l.name l.runs l.initial.text l.text l.start-index

@@ -1,37 +1,28 @@
 -- `factors::factorization::list_factors` meets its contract: each turn lists the factor that the definition lists.
 -- Assumes nothing.
 use native.Mathlib.Omega.{arith}
-use Rattle.letters.specs.RankLaws.{row_length}
-use Rattle.answer.specs.ContentLaws.{same_room}
-use Rattle.factors.proofs.Listing.{listing_start, listing_counts, listing_next, listing_step, listing_end}
+use Rattle.factors.proofs.Listing.{listing_start, listing_counts, listing_scanned, listing_kept, listing_step, listing_end}
 use Rattle.factors.proofs.factorization.list_factors.Goals as goal
+use Rattle.factors.proofs.factorization.list_factors.Goals.{then-s-start, else-s-start}
 
 pub loop-start-init : goal.loop-start-init
-loop-start-init c = (row_length c.args.ranks.now c.args.text.now, listing_start _ _ _)
+loop-start-init c = listing_start _ _ _
 
--- The row has room as the text has.
-pub stretch_at-s-requires-clause-comparisons_bound : goal.stretch_at-s-requires-clause-comparisons_bound
-stretch_at-s-requires-clause-comparisons_bound c =
-    listing_counts _ _ _ _ _ _ _ (same_room c.loop-start.invariant.0 c.requires) c.loop-start.invariant.1 (omega arith)
-
-pub overflow_add-start : goal.overflow_add-start
-overflow_add-start c = omega (
-  arith,
-  listing_next _ _ _ _ _ _ _ (same_room c.loop-start.invariant.0 c.requires) c.loop-start.invariant.1 (omega arith) _ c.stretch_at-s.ensures.result,
-)
-
-pub loop-start-smaller : goal.loop-start-smaller
-loop-start-smaller c = omega (
-  arith,
-  listing_next _ _ _ _ _ _ _ (same_room c.loop-start.invariant.0 c.requires) c.loop-start.invariant.1 (omega arith) _ c.stretch_at-s.ensures.result,
-)
+pub overflow_add-comparisons : goal.overflow_add-comparisons
+overflow_add-comparisons c = omega (arith, c.comparisons.ensures.count, listing_counts _ _ _ _ _ _ _ c.requires c.loop-start.invariant (omega arith))
 
 pub loop-start-preserved : goal.loop-start-preserved
 loop-start-preserved c =
-    let room = same_room c.loop-start.invariant.0 c.requires in
-    (c.loop-start.invariant.0, listing_step _ _ _ _ _ _ _ room c.loop-start.invariant.1 (omega arith) _ c.stretch_at-s.ensures.result)
+    let w = c.loop-start.invariant in
+    elim c.if-s-start.branch [
+      | then-s-start b ↦
+          let found = listing_scanned _ _ _ _ _ _ _ c.requires w (omega arith) b.if-s-start.true _ b.scan-s.ensures.stretch b.len-then-s-start.ensures
+          b.comparisons.ensures.count in
+          rw (b.s-is, b.comparisons-is) (listing_step _ _ _ _ _ _ _ c.requires w (omega arith) _ found)
+      | else-s-start b ↦
+          let kept = listing_kept _ _ _ _ _ _ _ c.requires w b.if-s-start.false in
+          rw (b.s-is, b.comparisons-is) (listing_step _ _ _ _ _ _ _ c.requires w (omega arith) _ kept)
+    ]
 
 pub returns : goal.returns
-returns c =
-    let room = same_room c.loop-start.invariant.0 c.requires in
-    record { content = listing_end _ _ _ _ _ _ _ room c.loop-start.invariant.1 (omega arith) }
+returns c = record { content = listing_end _ _ _ _ _ _ _ c.requires c.loop-start.invariant (omega arith) }

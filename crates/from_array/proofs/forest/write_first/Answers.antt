@@ -23,12 +23,12 @@ loop-i-preserved c = (
       c.mark.new.out
       c.mark.new.out
       c.loop-i.invariant.0
-      c.loop-i-test.true
+      (omega (arith, c.loop-i-test.true))
       c.mark.ensures.content
       (λ j p n. sym (innermost_is c.args.array.now j j c.loop-i.i n))
       (filling_keeps (first_for c.args.array.now) c.args.array.now c.write_own.new.first c.requires.valid c.loop-i.i c.loop-i.i c.loop-i.first c.mark.new.out
       c.loop-i.invariant.0
-      c.loop-i-test.true
+      (omega (arith, c.loop-i-test.true))
       c.mark.ensures.content),
   omega arith,
 )

@@ -46,7 +46,7 @@ pub overflow_add-depth : goal.overflow_add-depth
 overflow_add-depth c =
     omega (
       arith,
-      depth_here c.args.array.now c.write_zeros.new.text c.loop-i.text c.requires.valid c.loop-i.i c.loop-i-test.true c.loop-i.invariant.0,
+      depth_here c.args.array.now c.write_zeros.new.text c.loop-i.text c.requires.valid c.loop-i.i (omega (arith, c.loop-i-test.true)) c.loop-i.invariant.0,
       depth_at_most c.args.array.now c.loop-i.i,
     )
 
@@ -54,15 +54,15 @@ pub overflow_add-text : goal.overflow_add-text
 overflow_add-text c =
     omega (
       arith,
-      letter_here c.args.array.now c.write_zeros.new.text c.loop-i.text c.requires.valid c.loop-i.i c.loop-i-test.true c.loop-i.invariant.0
+      letter_here c.args.array.now c.write_zeros.new.text c.loop-i.text c.requires.valid c.loop-i.i (omega (arith, c.loop-i-test.true)) c.loop-i.invariant.0
           (c.loop-i.i + c.wide.result)
           (omega (arith, c.wide.ensures.number)),
-      letter_below c.args.array.now c.requires.valid c.loop-i.i c.loop-i-test.true,
+      letter_below c.args.array.now c.requires.valid c.loop-i.i (omega (arith, c.loop-i-test.true)),
     )
 
 pub loop-i-preserved : goal.loop-i-preserved
 loop-i-preserved c = (
-  turned c.args.array.now c.write_zeros.new.text c.loop-i.text c.requires.valid c.loop-i.i c.loop-i-test.true c.loop-i.invariant.0
+  turned c.args.array.now c.write_zeros.new.text c.loop-i.text c.requires.valid c.loop-i.i (omega (arith, c.loop-i-test.true)) c.loop-i.invariant.0
       (c.loop-i.i + c.wide.result)
       c.mark.new.out
       (omega (arith, c.wide.ensures.number))

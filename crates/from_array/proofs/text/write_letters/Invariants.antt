@@ -2,7 +2,7 @@
 -- the number of spans that hold them where the innermost of these had its turn.
 -- Assumes nothing.
 use mathlib.Core.List.{List}
-use Prim.Native.Nat.{ℕ, ◌-◌, ◌≤◌}
+use Prim.Native.Nat.{ℕ, ◌≤◌}
 use lib.ListN.{length}
 use Rattle.words.specs.ValidArray.{holding, letter_for}
 use Rattle.from_array.proofs.Filling.{Filling}
@@ -14,6 +14,3 @@ depth a j = holding a j j
 
 abbrev pub invariant-loop-i : goal.invariant-loop-i
 invariant-loop-i l = Filling (depth l.array) (letter_for l.array) l.array l.i l.initial.text l.text × (l.i ≤ length l.array)
-
-abbrev pub decreases-loop-i : goal.decreases-loop-i
-decreases-loop-i l = l.n - l.i
