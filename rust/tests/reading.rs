@@ -92,9 +92,11 @@ fn reading_names_what_exists() {
                     let name = parts[parts.len() - 1];
                     let inside: Vec<&PathBuf> = texts.keys().filter(|p| p.starts_with(&source)).collect();
                     let file = source.join(parts[1]).with_extension("rt");
-                    let module = if parts.len() > 2 && file.exists() { file } else { source.join("lib.rt") };
+                    // The part in the middle is a module, or a type with methods.
+                    let methods = parts.len() > 2 && !file.exists();
+                    let module = if parts.len() > 2 && !methods { file } else { source.join("lib.rt") };
                     let found = match texts.get(&module) {
-                        Some(t) => declares(t, name) || t.contains(&format!("::{name}")),
+                        Some(t) => (declares(t, name) || t.contains(&format!("::{name}"))) && (!methods || declares(t, parts[1])),
                         None => false,
                     };
                     if inside.is_empty() || !(found || source.join(name).with_extension("rt").exists()) {

@@ -27,6 +27,7 @@ fn common_bytes(x: u64, y: u64) -> usize
 }
 
 // The length of the longest common prefix of two words, letters with one key taken as the same: one letter after another.
+// The keys stand beside both words, not in a struct with each: the two share them.
 pub fn common_prefix_singly(keys: &[u8; 256], u: &[u8], v: &[u8]) -> usize
     ensures result { result ≡ common_prefix (rank_row keys.now u.now) (rank_row keys.now v.now) }
 {

@@ -5,14 +5,14 @@ use Rattle.std.proofs.Common.{sym, ap, ◌∙◌, take_at, drop_at}
 use Rattle.answer.specs.declared.Reason.{Reason}
 use Rattle.answer.specs.declared.Accepted.{Accepted}
 use Rattle.answer.specs.declared.Answer.{Answer}
-use Rattle.answer.specs.declared.Refusal.{Refusal}
+use Rattle.answer.specs.declared.Refused.{Refused}
 use Rattle.answer.specs.Answers.{accepted_after, refused_for}
 use Rattle.answer.specs.AfterCall.{written, content_in, content_after}
 
 -- A call whose outcome accepts leaves what it has written.
 pub content_ok : (a : Answer) {accepted : Accepted} → a.outcome ≡ Ok accepted → (l before : List ℕ) {after : List ℕ} → after ≡ written l before →
     after ≡ content_after a l before
-content_ok a e l before h = h ∙ sym (ap (λ (o : Result Accepted Refusal). content_in o l before) e)
+content_ok a e l before h = h ∙ sym (ap (λ (o : Result Accepted Refused). content_in o l before) e)
 
 -- A refused call leaves a buffer as it was.
 pub content_refused : (a : Answer) (reason : Reason) (position : ℕ) → a ≡ refused_for reason position → (l before : List ℕ) →

@@ -4,7 +4,7 @@ use Rattle.std.specs.Prelude.{◌≡◌, refl, Bool, true, false, cond, List, []
 use Rattle.std.proofs.Common.{sym, ap, ap₂, ◌∙◌}
 use Rattle.answer.specs.declared.Accepted.{Accepted}
 use Rattle.answer.specs.declared.Answer.{Answer}
-use Rattle.answer.specs.declared.Refusal.{Refusal}
+use Rattle.answer.specs.declared.Refused.{Refused}
 use Rattle.answer.specs.declared.Reason.{Reason}
 use Rattle.answer.specs.declared.Reason.TheVariants.{EmptyText, TextTooLong, UnknownOrder, ShortOutput, ShortWork, ZeroEntry, LongEntry, CrossingSpans}
 use Rattle.answer.specs.declared.Reason.TheVariants.{NoHeader, BadName, UnfitByte, SecondRecord, NoLetters, TooManyLetters, FileTooLong}
@@ -20,7 +20,7 @@ abbrev pub accepted_with : ℕ → Answer
 accepted_with count = accepted_after count 0
 
 -- Refused.
-abbrev pub refused_by : Refusal → Answer
+abbrev pub refused_by : Refused → Answer
 refused_by refusal = record { outcome = Err refusal }
 
 -- Refused, with the reason and the position.
@@ -32,17 +32,17 @@ abbrev pub refused_if : Bool → Reason → ℕ → Answer → Answer
 refused_if fails reason position rest = cond fails (refused_for reason position) rest
 
 -- The number of an outcome: 0 where it accepts, else the reason's.
-abbrev pub number_in : Result Accepted Refusal → ℕ
+abbrev pub number_in : Result Accepted Refused → ℕ
 number_in (Ok accepted) = 0
 number_in (Err refusal) = number_of refusal.reason
 
 -- Its value: the count where it accepts, else the position.
-abbrev pub value_in : Result Accepted Refusal → ℕ
+abbrev pub value_in : Result Accepted Refused → ℕ
 value_in (Ok accepted) = accepted.count
 value_in (Err refusal) = refusal.position
 
 -- Its comparisons: those counted where it accepts, else 0.
-abbrev pub comparisons_in : Result Accepted Refusal → ℕ
+abbrev pub comparisons_in : Result Accepted Refused → ℕ
 comparisons_in (Ok accepted) = accepted.comparisons
 comparisons_in (Err refusal) = 0
 
@@ -96,7 +96,7 @@ refusal_told NotLyndon p = refl
 refusal_told UnknownTable p = refl
 refusal_told UnwrittenTable p = refl
 
-outcome_told : (o : Result Accepted Refusal) → answer_with (number_in o) (value_in o) (comparisons_in o) ≡ record { outcome = o }
+outcome_told : (o : Result Accepted Refused) → answer_with (number_in o) (value_in o) (comparisons_in o) ≡ record { outcome = o }
 outcome_told (Ok accepted) = refl
 outcome_told (Err refusal) = refusal_told refusal.reason refusal.position
 
@@ -107,7 +107,7 @@ answer_told a b p q r =
     outcome_told b.outcome
 
 -- No answer is both accepted and refused.
-pub accepted_apart : {count comparisons : ℕ} {refusal : Refusal} → ¬ (accepted_after count comparisons ≡ refused_by refusal)
+pub accepted_apart : {count comparisons : ℕ} {refusal : Refused} → ¬ (accepted_after count comparisons ≡ refused_by refusal)
 accepted_apart e =
     let z : ◌≡◌ {A = Bool} true false = ap (λ (a : Answer). is_ok a.outcome) e in
     cc

@@ -70,7 +70,7 @@ pub struct Accepted {
 
 // What is told of a refused input. The position is 0 where the tables of the documents name none.
 #[derive(Clone, Copy, Debug, PartialEq, Eq)]
-pub struct Refusal {
+pub struct Refused {
     pub reason: Reason,
     pub position: u32,
 }
@@ -78,13 +78,13 @@ pub struct Refusal {
 // What every call returns: document 01 names this form, a struct that holds an enum.
 #[derive(Clone, Copy, Debug, PartialEq, Eq)]
 pub struct Answer {
-    pub outcome: Result<Accepted, Refusal>,
+    pub outcome: Result<Accepted, Refused>,
 }
 
-impl From<Refusal> for Answer {
+impl From<Refused> for Answer {
     ghost from_gives = { λ refusal answer. answer ≡ refused_by refusal };
 
-    fn from(refusal: Refusal) -> Answer {
+    fn from(refusal: Refused) -> Answer {
         Answer {
             outcome: Err(refusal),
         }
@@ -101,32 +101,34 @@ pub fn accept(count: u32) -> Answer
     }
 }
 
-// The number of an answer: 0 where it accepts, else the reason's.
-pub fn number(a: Answer) -> u32
-    ensures number { result ≡ number a }
-{
-    match a.outcome {
-        Ok(_) => 0,
-        Err(told) => told.reason.number(),
+impl Answer {
+    // Its number: 0 where it accepts, else the reason's.
+    pub fn number(self) -> u32
+        ensures number { result ≡ number self }
+    {
+        match self.outcome {
+            Ok(_) => 0,
+            Err(told) => told.reason.number(),
+        }
     }
-}
 
-// The value of an answer: the count where it accepts, else the position.
-pub fn value(a: Answer) -> u32
-    ensures value { result ≡ value a }
-{
-    match a.outcome {
-        Ok(told) => told.count,
-        Err(told) => told.position,
+    // Its value: the count where it accepts, else the position.
+    pub fn value(self) -> u32
+        ensures value { result ≡ value self }
+    {
+        match self.outcome {
+            Ok(told) => told.count,
+            Err(told) => told.position,
+        }
     }
-}
 
-// The comparisons of an answer: those counted where it accepts, else 0.
-pub fn comparisons(a: Answer) -> u32
-    ensures comparisons { result ≡ comparisons a }
-{
-    match a.outcome {
-        Ok(told) => told.comparisons,
-        Err(_) => 0,
+    // Its comparisons: those counted where it accepts, else 0.
+    pub fn comparisons(self) -> u32
+        ensures comparisons { result ≡ comparisons self }
+    {
+        match self.outcome {
+            Ok(told) => told.comparisons,
+            Err(_) => 0,
+        }
     }
 }

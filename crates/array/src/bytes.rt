@@ -12,6 +12,7 @@ use letters::Keyed;
 
 // The Lyndon array of a text of bytes, in order 0 (rising) or 1 (falling): for every position the length of the longest Lyndon word
 // that starts there. Refused by document 01's checks 1, 2, 3 and 4.
+// The order is a number, as C gives it.
 pub fn lyndon_array(text: &[u8], order: u32, out: &mut [u32]) -> Answer
     ensures answer { result ≡ array_answer (length text.now) order (length out.old) }
     ensures content { out.new ≡ content_after result (array_of (decided_order order) text.now) out.old }
@@ -26,6 +27,7 @@ pub fn lyndon_array(text: &[u8], order: u32, out: &mut [u32]) -> Answer
 
 // The same in order 0, 1 or 2, which compares letters by the ranks of a table; orders 0 and 1 do not look at it. Refused by document 02's
 // checks 1, 2, 3, 16 and 4.
+// The order is a number, as C gives it.
 pub fn lyndon_array_ranked(text: &[u8], order: u32, table: &[u8], out: &mut [u32]) -> Answer
     ensures answer { result ≡ array_ranked_answer (length text.now) order (length table.now) (length out.old) }
     ensures content { out.new ≡ content_after result (array_in order table.now text.now) out.old }

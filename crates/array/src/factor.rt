@@ -18,9 +18,9 @@ impl Factor {
         requires { (j < length buf.now) × (j + get_or buf.now j 0 ≤ length buf.now) }
         ensures factor { result ≡ factor_at buf.now j }
     {
-        let length = letters::wide(buf[j]);
+        let length = buf[j] as usize;
         let known = if 1 < length {
-            letters::wide(buf[j + length - 1])
+            buf[j + length - 1] as usize
         } else {
             0
         };
@@ -43,7 +43,7 @@ impl Factor {
         if self.known < w {
             return Some(w);
         }
-        if w + letters::wide(buf[self.start + w]) == self.length {
+        if w + buf[self.start + w] as usize == self.length {
             return Some(w + self.known);
         }
         None
@@ -61,6 +61,7 @@ impl Factor {
 }
 
 // Gives the last places of all factors of the first n places their entries back.
+// The number of places stands beside the buffer: a caller of C may lend a longer one.
 pub(crate) fn restore_all(buf: &mut [u32], n: usize)
     requires { HasRows buf.old n }
     ensures content { AllRestored buf.old buf.new n }

@@ -11,6 +11,7 @@ use answer::Answer;
 
 // The Lyndon array of a text of 32-bit letters, in order 0 (rising) or 1 (falling): for every position the length of the longest Lyndon word
 // that starts there. Refused by document 01's checks 1, 2, 3 and 4.
+// The order is a number, as C gives it.
 pub fn lyndon_array(text: &[u32], order: u32, out: &mut [u32]) -> Answer
     ensures answer { result ≡ array_answer (length text.now) order (length out.old) }
     ensures content { out.new ≡ content_after result (array_of (decided_order order) text.now) out.old }

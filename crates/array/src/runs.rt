@@ -111,7 +111,7 @@ impl<M: Measure> Pass<'_, M> {
         let Ordering::Greater = word.stop else {
             return word.agreed;
         };
-        if word.agreed < letters::wide(buf[word.end]) {
+        if word.agreed < buf[word.end] as usize {
             return word.agreed;
         }
         let more = self

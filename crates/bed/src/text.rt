@@ -41,6 +41,7 @@ impl<'a> Text<'a> {
     }
 
     // Writes n in decimal.
+    // By hand: what the library's `write!` writes is promised only where it returns `Ok`.
     pub(crate) fn decimal(&mut self, n: usize)
         requires { Room self.old (length (decimal_of n)) }
         ensures wrote { Wrote self.old self.new (decimal_of n) }

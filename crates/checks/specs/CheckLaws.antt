@@ -3,7 +3,7 @@
 use Rattle.std.specs.Prelude.{◌≡◌, refl, Bool, true, false, ℕ, zero, suc, ◌<◌, ◌≤◌, ⊤, Result, Ok, Err}
 use Rattle.std.proofs.Common.{sym, ap, ◌∙◌, arith, lt-ltb, le-ltb, eq-eqb, ne_eqb}
 use Rattle.answer.specs.declared.Accepted.{Accepted}
-use Rattle.answer.specs.declared.Refusal.{Refusal}
+use Rattle.answer.specs.declared.Refused.{Refused}
 use Rattle.answer.specs.declared.Reason.TheVariants.{EmptyText, TextTooLong, UnknownOrder, ShortOutput, ShortWork, WrongTable, NotLyndon}
 use Rattle.answer.specs.declared.Answer.{Answer}
 use Rattle.answer.specs.Answers.{accepted_with, refused_by, refused_for, accepted_apart}
@@ -19,7 +19,7 @@ module _ {now : Check} {check : Answer → Answer} (all : Refuses now check) (re
   passing e = sym (all.answer rest) ∙ ap (λ (c : Check). answer_to c rest) e
 
   -- Checks of which one fails refuse.
-  pub failing : {refusal : Refusal} → now ≡ Err refusal → check rest ≡ refused_by refusal
+  pub failing : {refusal : Refused} → now ≡ Err refusal → check rest ≡ refused_by refusal
   failing e = sym (all.answer rest) ∙ ap (λ (c : Check). answer_to c rest) e
 
 -- The checks, where their conditions hold.
@@ -124,7 +124,7 @@ module _ (rest : Answer) where
   work_short needed given h = simp (lt-ltb given needed h)
 
 -- What an answer says of the checks before it.
-abbrev said_by : Result Accepted Refusal → Check
+abbrev said_by : Result Accepted Refused → Check
 said_by (Ok accepted) = Ok tt
 said_by (Err refusal) = Err refusal
 

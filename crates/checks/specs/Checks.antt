@@ -1,7 +1,7 @@
 -- The checks of document 01's table ("Where each check stands") and of document 02, each with what follows where it does not refuse.
 -- Assumes nothing.
 use Rattle.std.specs.Prelude.{◌≡◌, Bool, true, not, ◌&&◌, ℕ, ltb, eqb, ⊤, Result, Ok, Err}
-use Rattle.answer.specs.declared.Refusal.{Refusal}
+use Rattle.answer.specs.declared.Refused.{Refused}
 use Rattle.answer.specs.declared.Reason.TheVariants.{EmptyText, TextTooLong, UnknownOrder, ShortOutput, ShortWork, FileTooLong}
 use Rattle.answer.specs.declared.Reason.TheVariants.{WrongTable, NotLyndon, UnknownTable, UnwrittenTable}
 use Rattle.answer.specs.declared.Answer.{Answer}
@@ -115,7 +115,7 @@ reader_checked n given rest = output_checked max_letters given (input_checked n 
 
 -- What the checks of a call say: nothing, or the first refusal.
 abbrev pub Check : Type 0
-Check = Result ⊤ Refusal
+Check = Result ⊤ Refused
 
 -- The answer where `rest` follows the checks.
 abbrev pub answer_to : Check → Answer → Answer

@@ -13,10 +13,10 @@ ghost use Rattle.checks.specs.Checks.{uses_table, table_checked, ranked_checked,
 ghost use Rattle.checks.specs.Checks.{existence_checked, usable_checked, table_use_checked, table_write_checked};
 ghost use Rattle.checks.specs.Checks.{lyndon_checked, two_texts_checked};
 
-use answer::{Reason, Refusal};
+use answer::{Reason, Refused};
 
 // 1 and 2: a call on n letters or entries.
-pub fn length(n: usize) -> Result<(), Refusal>
+pub fn length(n: usize) -> Result<(), Refused>
     ensures check { Refuses result (length_checked max_length n) }
     ensures passed { OnOk result (Sized n) }
 {
@@ -25,7 +25,7 @@ pub fn length(n: usize) -> Result<(), Refusal>
 }
 
 // 1, 2 and 4: a call on n letters or entries that needs as many places.
-pub fn text(n: usize, given: usize) -> Result<(), Refusal>
+pub fn text(n: usize, given: usize) -> Result<(), Refused>
     ensures check { Refuses result (text_checked n given) }
     ensures passed { OnOk result (Sized n × (n ≤ given)) }
 {
@@ -34,7 +34,8 @@ pub fn text(n: usize, given: usize) -> Result<(), Refusal>
 }
 
 // 1, 2, 3 and 4: such a call on letters that has an order number, 0 or 1.
-pub fn ordered_text(letters: usize, number: u32, given: usize) -> Result<(), Refusal>
+// The order is a number, as C gives it.
+pub fn ordered_text(letters: usize, number: u32, given: usize) -> Result<(), Refused>
     ensures check { Refuses result (ordered_text_checked letters number given) }
     ensures passed { OnOk result (Sized letters × (number ≤ 1) × (letters ≤ given)) }
 {
@@ -44,7 +45,7 @@ pub fn ordered_text(letters: usize, number: u32, given: usize) -> Result<(), Ref
 }
 
 // 1 for either text, then 2 for either text: a call on two texts, with their lengths.
-pub fn two_texts(first: usize, second: usize) -> Result<(), Refusal>
+pub fn two_texts(first: usize, second: usize) -> Result<(), Refused>
     ensures check { Refuses result (two_texts_checked first second) }
     ensures passed { OnOk result (Sized first × Sized second) }
 {
@@ -55,7 +56,8 @@ pub fn two_texts(first: usize, second: usize) -> Result<(), Refusal>
 }
 
 // 1, 2, 3 and 16: a call on letters in order 0, 1 or 2, with the length of its rank table.
-fn ranked(size: usize, number: u32, entries: usize) -> Result<(), Refusal>
+// The order is a number, as C gives it.
+fn ranked(size: usize, number: u32, entries: usize) -> Result<(), Refused>
     ensures check { Refuses result (ranked_checked size number entries) }
     ensures passed { OnOk result (Sized size × (number ≤ ranked_order) × (uses_table number ≡ true → entries ≡ table_length)) }
 {
@@ -65,7 +67,8 @@ fn ranked(size: usize, number: u32, entries: usize) -> Result<(), Refusal>
 }
 
 // 1, 2, 3, 16 and 4: such a call that needs as many places.
-pub fn ranked_text(size: usize, number: u32, entries: usize, given: usize) -> Result<(), Refusal>
+// The order is a number, as C gives it.
+pub fn ranked_text(size: usize, number: u32, entries: usize, given: usize) -> Result<(), Refused>
     ensures check { Refuses result (ranked_text_checked size number entries given) }
     ensures passed { OnOk result (Sized size × (number ≤ ranked_order) × (uses_table number ≡ true → entries ≡ table_length) × (size ≤ given)) }
 {
@@ -74,13 +77,14 @@ pub fn ranked_text(size: usize, number: u32, entries: usize, given: usize) -> Re
 }
 
 // 1, 2, 3, 16 and 4, of both buffers: a forest of letters in such an order.
+// The order is a number, as C gives it.
 pub fn ranked_forest(
     size: usize,
     number: u32,
     entries: usize,
     first: usize,
     past: usize,
-) -> Result<(), Refusal>
+) -> Result<(), Refused>
     ensures check { Refuses result (ranked_forest_checked size number entries first past) }
     ensures passed { OnOk result (Sized size × (number ≤ ranked_order) × (uses_table number ≡ true → entries ≡ table_length) × (size ≤ first) × (size ≤ past)) }
 {
@@ -89,7 +93,7 @@ pub fn ranked_forest(
 }
 
 // 1, 2 and 4, of both buffers: a forest of n letters or entries.
-pub fn forest(n: usize, first: usize, past: usize) -> Result<(), Refusal>
+pub fn forest(n: usize, first: usize, past: usize) -> Result<(), Refused>
     ensures check { Refuses result (forest_checked n first past) }
     ensures passed { OnOk result (Sized n × (n ≤ first) × (n ≤ past)) }
 {
@@ -98,7 +102,7 @@ pub fn forest(n: usize, first: usize, past: usize) -> Result<(), Refusal>
 }
 
 // 1, 2, 4 and 5: the runs of n letters, with the lengths of list and work buffer.
-pub fn runs(size: usize, list: usize, buffer: usize) -> Result<(), Refusal>
+pub fn runs(size: usize, list: usize, buffer: usize) -> Result<(), Refused>
     ensures check { Refuses result (runs_checked size list buffer) }
     ensures passed { OnOk result (Sized size × (run_list_length size ≤ list) × (work_length size ≤ buffer)) }
 {
@@ -108,7 +112,7 @@ pub fn runs(size: usize, list: usize, buffer: usize) -> Result<(), Refusal>
 }
 
 // 1, 2, 16, 4 and 5: the runs of n letters by a rank table.
-pub fn ranked_runs(size: usize, entries: usize, places: usize, work: usize) -> Result<(), Refusal>
+pub fn ranked_runs(size: usize, entries: usize, places: usize, work: usize) -> Result<(), Refused>
     ensures check { Refuses result (ranked_runs_checked size entries places work) }
     ensures passed { OnOk result (Sized size × (entries ≡ table_length) × (run_list_length size ≤ places) × (work_length size ≤ work)) }
 {
@@ -119,7 +123,7 @@ pub fn ranked_runs(size: usize, entries: usize, places: usize, work: usize) -> R
 }
 
 // 21 and 22: a call that uses or reads a table of a store.
-pub fn table_use(there: bool, usable: bool) -> Result<(), Refusal>
+pub fn table_use(there: bool, usable: bool) -> Result<(), Refused>
     ensures check { Refuses result (table_use_checked there usable) }
     ensures passed { OnOk result ((there ≡ true) × (usable ≡ true)) }
 {
@@ -128,7 +132,7 @@ pub fn table_use(there: bool, usable: bool) -> Result<(), Refusal>
 }
 
 // 21 and 16: a call that writes a table of a store.
-pub fn table_write(exists: bool, given: usize) -> Result<(), Refusal>
+pub fn table_write(exists: bool, given: usize) -> Result<(), Refused>
     ensures check { Refuses result (table_write_checked exists given) }
     ensures passed { OnOk result ((exists ≡ true) × (given ≡ table_length)) }
 {
@@ -137,7 +141,7 @@ pub fn table_write(exists: bool, given: usize) -> Result<(), Refusal>
 }
 
 // 4 and 15: the reader, on an input of n bytes.
-pub fn reader(n: usize, given: usize) -> Result<(), Refusal>
+pub fn reader(n: usize, given: usize) -> Result<(), Refused>
     ensures check { Refuses result (reader_checked n given) }
     ensures passed { OnOk result ((max_letters ≤ given) × (n ≤ max_input)) }
 {
@@ -146,19 +150,19 @@ pub fn reader(n: usize, given: usize) -> Result<(), Refusal>
 }
 
 // A check that fails or not, with its reason and position.
-fn refuse_if(fails: bool, reason: Reason, position: u32) -> Result<(), Refusal>
+fn refuse_if(fails: bool, reason: Reason, position: u32) -> Result<(), Refused>
     ensures check { Refuses result (refused_if fails reason position) }
     ensures passed { OnOk result (fails ≡ false) }
 {
     if fails {
-        Err(Refusal { reason, position })
+        Err(Refused { reason, position })
     } else {
         Ok(())
     }
 }
 
 // 1: a text or array of n letters or entries is not empty.
-fn nonempty(n: usize) -> Result<(), Refusal>
+fn nonempty(n: usize) -> Result<(), Refused>
     ensures check { Refuses result (empty_checked n) }
     ensures passed { OnOk result (0 < n) }
 {
@@ -166,7 +170,7 @@ fn nonempty(n: usize) -> Result<(), Refusal>
 }
 
 // 2: it has at most 1,048,576 of them.
-fn at_most_limit(n: usize) -> Result<(), Refusal>
+fn at_most_limit(n: usize) -> Result<(), Refused>
     ensures check { Refuses result (limit_checked max_length n) }
     ensures passed { OnOk result (n ≤ max_length) }
 {
@@ -174,7 +178,8 @@ fn at_most_limit(n: usize) -> Result<(), Refusal>
 }
 
 // 3: the order number is at most `last`.
-fn order(last: u32, order: u32) -> Result<(), Refusal>
+// The order is a number, as C gives it.
+fn order(last: u32, order: u32) -> Result<(), Refused>
     ensures check { Refuses result (order_checked last order) }
     ensures passed { OnOk result (order ≤ last) }
 {
@@ -182,7 +187,7 @@ fn order(last: u32, order: u32) -> Result<(), Refusal>
 }
 
 // 16: a rank table that is used has an entry for each byte.
-fn table(used: bool, entries: usize) -> Result<(), Refusal>
+fn table(used: bool, entries: usize) -> Result<(), Refused>
     ensures check { Refuses result (table_checked used entries) }
     ensures passed { OnOk result (used ≡ true → entries ≡ table_length) }
 {
@@ -194,7 +199,7 @@ fn table(used: bool, entries: usize) -> Result<(), Refusal>
 }
 
 // 21: the table of a store that a call names exists.
-fn existence(there: bool) -> Result<(), Refusal>
+fn existence(there: bool) -> Result<(), Refused>
     ensures check { Refuses result (existence_checked there) }
     ensures passed { OnOk result (there ≡ true) }
 {
@@ -202,7 +207,7 @@ fn existence(there: bool) -> Result<(), Refusal>
 }
 
 // 22: it is a built-in table, or was written.
-fn usability(usable: bool) -> Result<(), Refusal>
+fn usability(usable: bool) -> Result<(), Refused>
     ensures check { Refuses result (usable_checked usable) }
     ensures passed { OnOk result (usable ≡ true) }
 {
@@ -210,7 +215,7 @@ fn usability(usable: bool) -> Result<(), Refusal>
 }
 
 // 17: a text that must be a Lyndon word is one.
-pub fn lyndon(holds: bool) -> Result<(), Refusal>
+pub fn lyndon(holds: bool) -> Result<(), Refused>
     ensures check { Refuses result (lyndon_checked holds) }
     ensures passed { OnOk result (holds ≡ true) }
 {
@@ -218,7 +223,7 @@ pub fn lyndon(holds: bool) -> Result<(), Refusal>
 }
 
 // 4: an output buffer has the places needed.
-pub fn output(needed: usize, given: usize) -> Result<(), Refusal>
+pub fn output(needed: usize, given: usize) -> Result<(), Refused>
     ensures check { Refuses result (output_checked needed given) }
     ensures passed { OnOk result (needed ≤ given) }
 {
@@ -226,7 +231,7 @@ pub fn output(needed: usize, given: usize) -> Result<(), Refusal>
 }
 
 // 5: the work buffer has the places needed.
-fn work(needed: usize, given: usize) -> Result<(), Refusal>
+fn work(needed: usize, given: usize) -> Result<(), Refused>
     ensures check { Refuses result (work_checked needed given) }
     ensures passed { OnOk result (needed ≤ given) }
 {
@@ -235,7 +240,7 @@ fn work(needed: usize, given: usize) -> Result<(), Refusal>
 
 // 4, of the run list of n letters: three places for each of n − 1 runs. n is compared with the runs that have room and one more, so that
 // neither a product nor a difference can wrap.
-fn run_list(n: usize, given: usize) -> Result<(), Refusal>
+fn run_list(n: usize, given: usize) -> Result<(), Refused>
     ensures check { Refuses result (output_checked (run_list_length n) given) }
     ensures passed { OnOk result (run_list_length n ≤ given) }
 {
@@ -243,7 +248,7 @@ fn run_list(n: usize, given: usize) -> Result<(), Refusal>
 }
 
 // 5, of the work buffer of the runs of n letters; a quotient is compared, so that no product wraps.
-fn run_work(n: usize, given: usize) -> Result<(), Refusal>
+fn run_work(n: usize, given: usize) -> Result<(), Refused>
     ensures check { Refuses result (work_checked (work_length n) given) }
     ensures passed { OnOk result (work_length n ≤ given) }
 {
@@ -251,7 +256,7 @@ fn run_work(n: usize, given: usize) -> Result<(), Refusal>
 }
 
 // 15: the input of the reader has at most as many bytes as its limit.
-fn input(n: usize) -> Result<(), Refusal>
+fn input(n: usize) -> Result<(), Refused>
     ensures check { Refuses result (input_checked n) }
     ensures passed { OnOk result (n ≤ max_input) }
 {

@@ -34,5 +34,5 @@ pub fn max_letters() -> usize
 pub fn prefix_count(n: usize) -> usize
     ensures count { result ≡ prefix_count n }
 {
-    if n == 0 { 0 } else { n - 1 }
+    n.saturating_sub(1)
 }

@@ -52,6 +52,7 @@ fn list_in(text: Keyed, order: Order, out: &mut [u32]) -> Accepted
 
 // Writes the starts of the factors of `text`, in an order and with a rank table that order 2 looks at,
 // into `out`; the count is their number, and the comparisons are those of Duval's scan.
+// The order is a number, as C gives it.
 pub fn factorization_ranked(text: &[u8], order: u32, table: &[u8], out: &mut [u32]) -> Answer
     ensures answer { result ≡ factorization_ranked_answer order table.now text.now (length out.old) }
     ensures content { out.new ≡ content_after result (factors_in order table.now text.now) out.old }

@@ -70,6 +70,7 @@ fn fill_in(text: Keyed, order: Order, out: &mut [u32])
 
 // Writes the Lyndon suffix table of `text`, in an order and with a rank table that order 2 looks at,
 // into `out`; the count is the number of letters.
+// The order is a number, as C gives it.
 pub fn suffix_table_ranked(text: &[u8], order: u32, table: &[u8], out: &mut [u32]) -> Answer
     ensures answer { result ≡ suffix_table_ranked_answer order table.now text.now (length out.old) }
     ensures content { out.new ≡ content_after result (suffix_table_in order table.now text.now) out.old }

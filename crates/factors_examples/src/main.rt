@@ -12,9 +12,9 @@ use std::io;
 
 // Writes an answer and the content of a buffer, in a line of its own.
 fn print_line(rt: &impl Print, a: Answer, buffer: &[u32]) -> io::Result<()> {
-    let number = answer::number(a);
-    let value = answer::value(a);
-    let comparisons = answer::comparisons(a);
+    let number = a.number();
+    let value = a.value();
+    let comparisons = a.comparisons();
     print!(rt; "{number} {value} {comparisons}:")?;
     for n in buffer {
         print!(rt; " {n}")?;

@@ -3,7 +3,7 @@
 use Rattle.std.specs.Prelude.{◌≡◌, List, ℕ, ◌<◌, length, Result, Ok, Err}
 use Rattle.answer.specs.declared.Accepted.{Accepted}
 use Rattle.answer.specs.declared.Answer.{Answer}
-use Rattle.answer.specs.declared.Refusal.{Refusal}
+use Rattle.answer.specs.declared.Refused.{Refused}
 use Rattle.answer.specs.declared.Reason.{Reason}
 use Rattle.answer.specs.declared.Reason.TheVariants.{EmptyText, TextTooLong, UnknownOrder, WrongTable, ShortOutput, ShortWork, ZeroEntry, LongEntry, CrossingSpans}
 use Rattle.answer.specs.declared.Reason.TheVariants.{NoHeader, BadName, UnfitByte, SecondRecord, NoLetters, TooManyLetters, FileTooLong}
@@ -56,7 +56,7 @@ pub record Accepts (x : List ℕ) (places c : ℕ) : Type 0 where
   pub counted : c ≡ length (sequence_letters x header_end)
 
 -- The outcome that document 01's table gives for x; the reader counts no comparisons (document 02, E7).
-abbrev pub HasOutcome : List ℕ → ℕ → Result Accepted Refusal → Type 0
+abbrev pub HasOutcome : List ℕ → ℕ → Result Accepted Refused → Type 0
 HasOutcome x places (Ok accepted) = Accepts x places accepted.count × (accepted.comparisons ≡ 0)
 HasOutcome x places (Err refusal) = Refuses x places refusal.reason refusal.position
 

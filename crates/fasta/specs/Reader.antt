@@ -2,7 +2,7 @@
 -- and 9 to 15 of its table; document 02, E2 and E4). Computed; the rows as conditions on the input stand in Rows, that the two agree in proofs/RowTheorems.
 -- Assumes nothing.
 use Rattle.std.specs.Prelude.{cond, List, ℕ, eqb, length, drop, Result, Ok, Err}
-use Rattle.answer.specs.declared.Refusal.{Refusal}
+use Rattle.answer.specs.declared.Refused.{Refused}
 use Rattle.answer.specs.declared.Reason.TheVariants.{SecondRecord, NoLetters}
 use Rattle.answer.specs.declared.Answer.{Answer}
 use Rattle.answer.specs.Answers.{accepted_with, refused_by, refused_for}
@@ -45,7 +45,7 @@ abbrev pub reader_answer : List ℕ → ℕ → Answer
 reader_answer x places = reader_checked (length x) places (answer_for (only_record x))
 
 -- The answer in what `read_named` tells.
-abbrev pub answer_of : Result Named Refusal → Answer
+abbrev pub answer_of : Result Named Refused → Answer
 answer_of (Ok named) = record { outcome = Ok named.accepted }
 answer_of (Err refusal) = refused_by refusal
 

@@ -11,7 +11,7 @@ ghost use Rattle.fasta.specs.Accepted.{AcceptedInput};
 ghost use Rattle.fasta.specs.Reader.{only_record, answer_of, reader_answer, letters_of};
 
 use crate::letters::write_letters;
-use answer::{Accepted, Answer, Reason, Refusal};
+use answer::{Accepted, Answer, Reason, Refused};
 use fasta_record::lines::{Lines, Stop, after_line};
 use fasta_record::{Fault, Record, record_at};
 
@@ -23,12 +23,12 @@ pub struct Named {
 }
 
 // The refusal of an input of fitting size for a fault in it.
-fn refusal_for(fault: Fault) -> Refusal
+fn refusal_for(fault: Fault) -> Refused
     requires { fault.position ≤ max_input }
     ensures reason { result.reason ≡ fault.reason }
     ensures position { result.position ≡ fault.position }
 {
-    Refusal {
+    Refused {
         reason: fault.reason,
         position: fault.position as u32,
     }
@@ -60,7 +60,7 @@ fn only_record(input: &[u8]) -> Result<Record, Fault>
 // Reads the letters of a FASTA input, as capitals, into `letters`, and tells where its name ends. A refusal changes nothing: one pass checks, and
 // another stores the letters.
 #[tactic(auto, using(crate::proofs::Laws::Positions::fault_within))]
-pub fn read_named(input: &[u8], letters: &mut [u8]) -> Result<Named, Refusal>
+pub fn read_named(input: &[u8], letters: &mut [u8]) -> Result<Named, Refused>
     ensures answer { answer_of result ≡ reader_answer input.now (length letters.old) }
     ensures content { letters.new ≡ content_after (answer_of result) (letters_of input.now) letters.old }
     ensures accepted { IfOk result (λ named. AcceptedInput input.now named.accepted.count named.end) }

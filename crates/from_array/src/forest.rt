@@ -13,6 +13,7 @@ use super::mark::mark;
 use answer::Answer;
 
 // Every position has itself.
+// The number of places stands beside the buffer: a caller of C may lend a longer one.
 fn write_own(first: &mut [u32], n: usize)
     requires n_short { n ≤ max_length }
     requires n_in_bounds { n ≤ length first.old }
@@ -46,7 +47,7 @@ fn past_at(array: &[u32], first: u32, j: usize) -> u32
     if first == own {
         return own;
     }
-    (j + letters::wide(array[j])) as u32
+    (j + array[j] as usize) as u32
 }
 
 // PAST, from FIRST.

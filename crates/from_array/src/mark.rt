@@ -10,11 +10,11 @@ pub(crate) fn mark(array: &[u32], out: &mut [u32], i: usize, value: u32)
     requires i_in_bounds { i < length array.now }
     ensures content { Marked array.now i value out.old out.new }
 {
-    let end = i + letters::wide(array[i]);
+    let end = i + array[i] as usize;
     let mut k = i + 1;
     // A while loop: its step is the entry read.
     while k < end {
         out[k] = value;
-        k += letters::wide(array[k]);
+        k += array[k] as usize;
     }
 }

@@ -11,6 +11,7 @@ use super::mark::mark;
 use answer::Answer;
 
 // Every position has 0: no span is counted yet.
+// The number of places stands beside the buffer: a caller of C may lend a longer one.
 fn write_zeros(text: &mut [u32], n: usize)
     requires { n ≤ length text.old }
     ensures content { Holds (λ j. 0) n text.old text.new }
@@ -29,7 +30,7 @@ fn write_letters(array: &[u32], text: &mut [u32])
     for i in 0..n {
         let depth = text[i];
         mark(array, text, i, depth + 1);
-        let left = n - (i + letters::wide(array[i]));
+        let left = n - (i + array[i] as usize);
         text[i] = depth + (left as u32);
     }
 }

@@ -11,14 +11,15 @@ ghost use Rattle.from_array.specs.Theorems.{text_after, right_first_after, right
 use check::expect;
 
 // `reconstruct` answers with the number and value, and leaves `wanted` in the text buffer.
+// What is said is a number, as the documents have it.
 fn expect_text(array: &[u32], text: &mut [u32], said: u32, with: u32, wanted: &[u32])
     requires number_said { number (reconstruct_answer array.now (length text.old)) ≡ said }
     requires value_said { value (reconstruct_answer array.now (length text.old)) ≡ «with» }
     requires text_left { text_after array.now text.old ≡ wanted.now }
 {
     let answer = from_array::reconstruct(array, text);
-    expect(answer::number(answer) == said);
-    expect(answer::value(answer) == with);
+    expect(answer.number() == said);
+    expect(answer.value() == with);
     expect(&*text == wanted);
 }
 
@@ -38,8 +39,8 @@ fn expect_forest(
     requires past_left { right_past_after array.now first.old past.old ≡ wanted_past.now }
 {
     let answer = from_array::right_forest(array, first, past);
-    expect(answer::number(answer) == said);
-    expect(answer::value(answer) == with);
+    expect(answer.number() == said);
+    expect(answer.value() == with);
     expect(&*first == wanted_first);
     expect(&*past == wanted_past);
 }

@@ -11,7 +11,7 @@ use Rattle.words.specs.Decided.{decided_order}
 use Rattle.words.specs.SuffixTable.{IsSuffixTable, LongestTo}
 use Rattle.words.specs.Compute.SuffixTable.{suffix_table_of_holds}
 use Rattle.answer.specs.declared.Accepted.{Accepted}
-use Rattle.answer.specs.declared.Refusal.{Refusal}
+use Rattle.answer.specs.declared.Refused.{Refused}
 use Rattle.answer.specs.declared.Answer.{Answer}
 use Rattle.answer.specs.AfterCall.{content_in, content_after}
 use Rattle.answer.specs.ContentLaws.{written_value, written_kept}
@@ -29,7 +29,7 @@ module _ (order : ℕ) (ranks x before after : List ℕ) (room : length x ≤ le
   pub suffix_table_tabled : AllTabled (order_of (direction_of order)) (row_in order ranks x) before after
   suffix_table_tabled =
       subst (λ (l : List ℕ). AllTabled (order_of (direction_of order)) (row_in order ranks x) before l)
-      (sym (content ∙ ap (λ (o : Result Accepted Refusal). content_in o (suffix_table_in order ranks x) before) accepts))
+      (sym (content ∙ ap (λ (o : Result Accepted Refused). content_in o (suffix_table_in order ranks x) before) accepts))
       (record {
         entry =
             λ t l.

@@ -12,7 +12,6 @@ ghost use Rattle.left_forest.specs.Links.{Descends, Linked, Closes, Linkable, Cr
 use answer::Answer;
 use checks::limits;
 use factors::suffix_table::suffix_table_ranked;
-use letters::wide;
 
 // FIRST and PAST are passed side by side, and not in a struct: each method of one would also have to ensure that its two references stay the same.
 
@@ -26,12 +25,13 @@ fn close(first: &[u32], past: &mut [u32], e: usize, last: usize)
     // A while loop: the next position is the link that is read there.
     while last < t {
         past[t] = (e + 1) as u32;
-        t = wide(first[t]);
+        t = first[t] as usize;
     }
 }
 
 // Reads the suffix table in PAST from left to right. FIRST gets the starts of its words, each one place
 // further on, and PAST the ends at the positions that a word crosses. Returns the start of the last word.
+// The number of letters stands beside the buffers: a caller of C may lend longer ones.
 fn link(first: &mut [u32], past: &mut [u32], n: usize) -> usize
     requires { Linkable first.old past.old n }
     ensures content { Crossed first.old past.old first.new past.new n result }
@@ -39,7 +39,7 @@ fn link(first: &mut [u32], past: &mut [u32], n: usize) -> usize
     let mut last: usize = 0;
     for e in 0..n {
         first[e] = last as u32;
-        last = e + 1 - wide(past[e]);
+        last = e + 1 - past[e] as usize;
         close(first, past, e, last);
     }
     last
@@ -55,7 +55,7 @@ fn mark_roots(first: &mut [u32], past: &mut [u32], last: usize)
     let mut t = last;
     // A while loop: the next position is the link that is read there.
     while 0 < t {
-        let next = wide(first[t]);
+        let next = first[t] as usize;
         first[t] = t as u32;
         past[t] = t as u32;
         t = next;
@@ -67,6 +67,7 @@ fn mark_roots(first: &mut [u32], past: &mut [u32], last: usize)
 // Writes the left forest of `text`, in an order and with a rank table that order 2 looks at, into
 // `first` and `past`; the count is the number of letters. `past` holds the suffix table until its words
 // have been read, and the checks of `suffix_table_ranked` pass where those before it do.
+// The order is a number, as C gives it.
 pub fn left_forest_ranked(
     text: &[u8],
     order: u32,

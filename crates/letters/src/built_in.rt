@@ -38,6 +38,7 @@ const FOLDED_NUMBERS: [u8; 256] = [
 ];
 
 // The built-in table of a number, 0 or 1; any other number gives table 1.
+// The table is named by a number, as C gives it.
 #[tactic(auto, unfolding(crate::specs::Ranks::own_numbers, crate::specs::BuiltIn::folded_numbers))]
 pub fn table(number: u32) -> [u8; 256]
     ensures entries { result ≡ built_in_table number }

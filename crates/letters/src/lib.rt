@@ -1,4 +1,4 @@
-// Letters of both widths: how two of them compare in an order, bytes by the rank that a table gives them, and numbers of the buffers as positions.
+// Letters of both widths: how two of them compare in an order, bytes by the rank that a table gives them.
 //
 // Contracts cite `specs/Compared.antt`, `specs/Ranks.antt`, `specs/Keys.antt`, `specs/BuiltIn.antt`, `specs/Default.antt` and the orders of `words`.
 // Nothing is assumed.
@@ -39,14 +39,8 @@ impl Keyed<'_> {
     }
 }
 
-// A number of a buffer as a position.
-pub fn wide(x: u32) -> usize
-    ensures number { result ≡ x }
-{
-    x as usize
-}
-
 // The order of a number: ranks, order 2, are compared as in order 0.
+// The order is a number, as C gives it.
 pub fn direction(order: u32) -> Order
     ensures direction { result ≡ numbered_order (direction_of order) }
 {
@@ -86,6 +80,7 @@ pub fn compare_ranks(table: &[u8; 256], a: u8, b: u8, order: Order) -> Ordering
 }
 
 // The ranks of all bytes in an order: those of the table in order 2, if it has 256 entries, else their own numbers.
+// The order is a number, as C gives it.
 pub fn rank_table(order: u32, table: &[u8]) -> [u8; 256]
     ensures content { result ≡ rank_table order table.now }
 {
@@ -110,6 +105,7 @@ pub fn turned_table(table: &[u8; 256]) -> [u8; 256]
 }
 
 // The keys of an order: the smaller key is the smaller letter.
+// The order is a number, as C gives it.
 pub fn key_table(order: u32, table: &[u8]) -> [u8; 256]
     ensures content { result ≡ key_table order table.now }
 {

@@ -2,7 +2,7 @@
 -- Assumes nothing.
 use Rattle.std.specs.Prelude.{List, ℕ, Result, Ok, Err}
 use Rattle.answer.specs.declared.Accepted.{Accepted}
-use Rattle.answer.specs.declared.Refusal.{Refusal}
+use Rattle.answer.specs.declared.Refused.{Refused}
 use Rattle.answer.specs.Reasons.{number_of}
 use Rattle.answer.specs.Limits.{max_letters}
 use Rattle.array.specs.Calls.{run_list}
@@ -16,7 +16,7 @@ abbrev pub record_listing : List ℕ → ℕ → List ℕ
 record_listing x p = bed_lines (record_name x p) (run_list (record_letters x p))
 
 -- What is printed for the input x by the reader's outcome.
-abbrev pub listing_for : Result Accepted Refusal → List ℕ → List ℕ
+abbrev pub listing_for : Result Accepted Refused → List ℕ → List ℕ
 listing_for (Ok accepted) x = record_listing x 0
 listing_for (Err refusal) x = refusal_line (number_of refusal.reason) refusal.position
 

@@ -9,7 +9,7 @@ use Rattle.words.proofs.Laws.Runs.{run_list_unique}
 use Rattle.words.proofs.Laws.RunSearch.{runs_of_holds}
 use Rattle.answer.specs.declared.Accepted.{Accepted}
 use Rattle.answer.specs.declared.Answer.{Answer}
-use Rattle.answer.specs.declared.Refusal.{Refusal}
+use Rattle.answer.specs.declared.Refused.{Refused}
 use Rattle.answer.specs.declared.Reason.{Reason}
 use Rattle.answer.specs.Reasons.{number_of}
 use Rattle.answer.specs.Answers.{accepted_with, accepted_after}
@@ -65,9 +65,9 @@ case_listing {x} {y} c =
     answer : reader_answer x max_letters ≡ reader_answer y max_letters
     answer = case_answer c max_letters
 
-    go : (o : Result Accepted Refusal) → (reader_answer y max_letters).outcome ≡ o → listing_for o x ≡ listing_for o y
+    go : (o : Result Accepted Refused) → (reader_answer y max_letters).outcome ≡ o → listing_for o x ≡ listing_for o y
     go (Ok told) e =
-        let answered : reader_answer y max_letters ≡ accepted_after told.count told.comparisons = ap (λ (o : Result Accepted Refusal). record { outcome = o }) e in
+        let answered : reader_answer y max_letters ≡ accepted_after told.count told.comparisons = ap (λ (o : Result Accepted Refused). record { outcome = o }) e in
         let accepted : reader_answer y max_letters ≡ accepted_with told.count =
         answered ∙ ap (accepted_after told.count) (accepted_uncompared y max_letters answered) in
         ap₂ (λ (name letters : List ℕ). bed_lines name (run_list letters)) (case_name c max_letters told.count (answer ∙ accepted)) (case_letters c)

@@ -11,7 +11,6 @@ ghost use Rattle.bed.specs.Bed.{bed_lines};
 ghost use Rattle.listing.specs.Limits.{max_listing};
 ghost use Rattle.listing.specs.Listing.{listing_of};
 
-use answer::value;
 use array::runs::runs;
 use bed::{MAX_LINE, write_lines, write_refusal};
 use checks::limits::{MAX_LETTERS, RUN_PLACES, WORK_PLACES};
@@ -39,7 +38,7 @@ fn write_record(name: &[u8], letters: &[u8], out: &mut [u8]) -> usize
 {
     let mut work = [0u32; WORK];
     let mut list = [0u32; RUNS];
-    let count = value(runs(letters, &mut work, &mut list));
+    let count = runs(letters, &mut work, &mut list).value();
     write_lines(name, &list, count as usize, out)
 }
 

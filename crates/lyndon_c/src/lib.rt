@@ -49,9 +49,9 @@ impl From<Answer> for LyndonAnswer {
 
     fn from(a: Answer) -> LyndonAnswer {
         LyndonAnswer {
-            number: answer::number(a),
-            value: answer::value(a),
-            comparisons: answer::comparisons(a),
+            number: a.number(),
+            value: a.value(),
+            comparisons: a.comparisons(),
         }
     }
 }

@@ -2,7 +2,7 @@
 -- Assumes nothing.
 use Rattle.std.specs.Prelude.{List, ℕ, length, Result, Ok, Err}
 use Rattle.answer.specs.declared.Accepted.{Accepted}
-use Rattle.answer.specs.declared.Refusal.{Refusal}
+use Rattle.answer.specs.declared.Refused.{Refused}
 use Rattle.answer.specs.declared.Answer.{Answer}
 use Rattle.answer.specs.Answers.{accepted_with, refused_by}
 use Rattle.answer.specs.AfterCall.{content_after}
@@ -23,7 +23,7 @@ write_answer group number entries =
     table_write_checked (table_exists (own_name group number)) entries (accepted_with table_length)
 
 -- The store after an outcome: the new one where the write was accepted, else as before.
-abbrev pub store_in : Result Accepted Refusal → TableStore → TableStore → TableStore
+abbrev pub store_in : Result Accepted Refused → TableStore → TableStore → TableStore
 store_in (Ok accepted) new before = new
 store_in (Err refusal) new before = before
 

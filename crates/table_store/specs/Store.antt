@@ -5,7 +5,7 @@ use Rattle.std.specs.Prelude.{Option, Some, None, Result, Ok, Err}
 use Rattle.std.proofs.Math.Seq.{paste}
 use Rattle.answer.specs.declared.Reason.{Reason}
 use Rattle.answer.specs.declared.Reason.TheVariants.{UnknownTable, UnwrittenTable}
-use Rattle.answer.specs.declared.Refusal.{Refusal}
+use Rattle.answer.specs.declared.Refused.{Refused}
 use Rattle.answer.specs.Limits.{table_length}
 use Rattle.letters.specs.BuiltIn.{built_in_table}
 use Rattle.table_store.specs.declared.store.TableStore.{TableStore}
@@ -76,7 +76,7 @@ with_table store group number table =
 
 -- What a call that uses or reads a table finds: the bytes of the table, or nothing, with the refusal of the call.
 abbrev pub Lookup : Type 0
-Lookup = Result (List ℕ) Refusal
+Lookup = Result (List ℕ) Refused
 
 abbrev pub missing : Reason → Lookup
 missing reason = Err (record { reason = reason; position = 0 })

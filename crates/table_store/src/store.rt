@@ -7,7 +7,7 @@ ghost use Rattle.table_store.specs.Store.{new_store, table_exists, own_place, is
 ghost use Rattle.table_store.specs.Calls.{write_answer, store_after, read_answer, read_after};
 ghost use Rattle.table_store.specs.Series.{result_with, result_of, store_of, write_table, use_table, read};
 
-use answer::{Answer, Refusal};
+use answer::{Answer, Refused};
 use checks::limits;
 
 // The groups are 1 and 2.
@@ -88,7 +88,7 @@ impl TableStore {
     }
 
     // A table, the group's own or a built-in one, or the refusal of its use.
-    pub fn look_up(&self, name: TableName) -> Result<[u8; 256], Refusal>
+    pub fn look_up(&self, name: TableName) -> Result<[u8; 256], Refused>
         ensures found { result ≡ lookup self.now name }
     {
         checks::table_use(name.exists(), self.is_usable(name))?;

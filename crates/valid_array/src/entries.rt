@@ -6,7 +6,7 @@ ghost use Rattle.answer.specs.Answers.{refused_by};
 ghost use Rattle.valid_array.specs.Answers.{array_checked};
 ghost use Rattle.valid_array.specs.Checked.{EntriesInRange};
 
-use answer::{Reason, Refusal};
+use answer::{Reason, Refused};
 
 // Where the span at `i` ends. The sum of a position and an entry is made in 64 bits.
 pub(crate) fn end_of(array: &[u32], i: usize) -> usize
@@ -18,7 +18,7 @@ pub(crate) fn end_of(array: &[u32], i: usize) -> usize
 
 // Refusals 6 and 7 in one pass from the left: the first entry that is 0 or too long.
 #[tactic(auto, using(crate::proofs::Verdicts::zero_verdict, crate::proofs::Verdicts::long_verdict))]
-pub(crate) fn check_entries(array: &[u32]) -> Result<(), Refusal>
+pub(crate) fn check_entries(array: &[u32]) -> Result<(), Refused>
     requires { length array.now ≤ max_length }
     ensures in_range { OnOk result (EntriesInRange array.now) }
     ensures refusal { IfErr result (λ r. array_checked array.now ≡ refused_by r) }
@@ -28,11 +28,11 @@ pub(crate) fn check_entries(array: &[u32]) -> Result<(), Refusal>
         let position = i as u32;
         if end == i {
             let reason = Reason::ZeroEntry;
-            return Err(Refusal { reason, position });
+            return Err(Refused { reason, position });
         }
         if array.len() < end {
             let reason = Reason::LongEntry;
-            return Err(Refusal { reason, position });
+            return Err(Refused { reason, position });
         }
     }
     Ok(())

@@ -28,6 +28,7 @@ pub(crate) fn least_crossing(array: &[u32]) -> Option<usize>
     requires { EntriesInRange array.now }
     ensures result { MatchOption result (LeastCrossing array.now (length array.now)) (λ k. (k < length array.now) × LeastCrossing array.now k) }
 {
+    // The length stands for none while it is sought: each position is below it.
     let mut least = array.len();
     for i in 0..array.len() {
         if least <= i {

@@ -5,7 +5,7 @@ use Rattle.std.proofs.Math.Path.{refl}
 use Rattle.std.proofs.Common.{sym, ap, ap₂, subst, ◌∙◌, arith}
 use Rattle.answer.specs.declared.Accepted.{Accepted}
 use Rattle.answer.specs.declared.Answer.{Answer}
-use Rattle.answer.specs.declared.Refusal.{Refusal}
+use Rattle.answer.specs.declared.Refused.{Refused}
 use Rattle.answer.specs.declared.Reason.{Reason}
 use Rattle.answer.specs.declared.Reason.TheVariants.{EmptyText, TextTooLong, UnknownOrder, WrongTable, ShortOutput, ShortWork, ZeroEntry, CrossingSpans}
 use Rattle.answer.specs.declared.Reason.TheVariants.{NoHeader, BadName, UnfitByte, NoLetters, FileTooLong, NotLyndon, UnknownTable, UnwrittenTable}
@@ -20,7 +20,7 @@ use Rattle.fasta.specs.Laws.HeaderLine.{header_unique}
 use Rattle.fasta.specs.Laws.RecordRows.{line_pass}
 
 -- A refused outcome, with the reason and the position.
-abbrev refused : Reason → ℕ → Result Accepted Refusal
+abbrev refused : Reason → ℕ → Result Accepted Refused
 refused r p = Err (record { reason = r; position = p })
 
 -- The first reason of each pass.
@@ -83,7 +83,7 @@ module _ (x : List ℕ) (places : ℕ) where
       let n : p ≡ p' = omega arith in
       ap₂ refused (same_reason m (subst (λ q. Placed x r q) n (placed f.holds)) (placed g.holds)) n
 
-  outcome_unique : (o o' : Result Accepted Refusal) → HasOutcome x places o → HasOutcome x places o' → o ≡ o'
+  outcome_unique : (o o' : Result Accepted Refused) → HasOutcome x places o → HasOutcome x places o' → o ≡ o'
   outcome_unique (Ok accepted) (Ok other) (h, e) (k, f) =
       ap₂ (λ (c q : ℕ). Ok (record { count = c; comparisons = q }))
       (h.counted ∙ ap (λ (i : ℕ). length (sequence_letters x i)) (header_unique h.ends k.ends) ∙ sym k.counted)

@@ -1,6 +1,6 @@
 -- `from_array::text::write_letters` meets its contract: in a turn a position hands on its depth and one more, and then holds its letter.
 -- Assumes nothing.
-use mathlib.Core.Path.{◌≡◌, sym, ap, subst, ◌∙◌}
+use mathlib.Core.Path.{◌≡◌, refl, sym, ap, subst, ◌∙◌}
 use mathlib.Core.List.{List}
 use Prim.Native.Nat.{ℕ, ◌+◌, ◌-◌, ◌<◌, ◌≤◌}
 use native.Mathlib.Omega.{arith}
@@ -55,17 +55,17 @@ overflow_add-text c =
     omega (
       arith,
       letter_here c.args.array.now c.write_zeros.new.text c.loop-i.text c.requires.valid c.loop-i.i (omega (arith, c.loop-i-test.true)) c.loop-i.invariant.0
-          (c.loop-i.i + c.wide.result)
-          (omega (arith, c.wide.ensures.number)),
+          (c.loop-i.i + get_or c.args.array.now c.loop-i.i 0)
+          refl,
       letter_below c.args.array.now c.requires.valid c.loop-i.i (omega (arith, c.loop-i-test.true)),
     )
 
 pub loop-i-preserved : goal.loop-i-preserved
 loop-i-preserved c = (
   turned c.args.array.now c.write_zeros.new.text c.loop-i.text c.requires.valid c.loop-i.i (omega (arith, c.loop-i-test.true)) c.loop-i.invariant.0
-      (c.loop-i.i + c.wide.result)
+      (c.loop-i.i + get_or c.args.array.now c.loop-i.i 0)
       c.mark.new.out
-      (omega (arith, c.wide.ensures.number))
+      refl
       c.mark.ensures.content
       (omega (arith, c.write_zeros.ensures.content.others.size)),
   omega arith,
