@@ -86,7 +86,8 @@ module _ {order : ℕ} {x buf : List ℕ} {i j l s : ℕ} (w : Comparing order x
       at t m (no n) = let z : k ≡ t = omega (arith, n) in subst (λ (u : ℕ). letters 0 x (i + u) ≡ letters 0 x (j + u)) z same
 
   -- They differ inside both: the smaller one of them decides.
-  pub letter_told : {k' : ℕ} {u v : Ordering} → r ≡ true → k < j - i → u ≡ comparison_of ((decided_order order).compare (letters 0 x (i + k)) (letters 0 x (j + k))) → k' ≡ k → v ≡ u →
+  pub letter_told : {k' : ℕ} {u v : Ordering} → r ≡ true → k < j - i →
+      u ≡ comparison_of ((decided_order order).compare (letters 0 x (i + k)) (letters 0 x (j + k))) → k' ≡ k → v ≡ u →
       Compared order x i j k' v
   letter_told t in_word is_u is_k is_v =
       rw (is_k, is_v ∙ is_u) (told ((decided_order order).compare (letters 0 x (i + k)) (letters 0 x (j + k))) ((decided_order order).right _ _))

@@ -1,6 +1,7 @@
 -- The letters of lines, stored byte by byte.
 -- Assumes nothing.
-use Rattle.std.proofs.Common.{◌≡◌, refl, List, [], ◌∷◌, ℕ, suc, ◌+◌, ◌≤◌, ◌<◌, length, get_or, set, drop, ap, ◌∙◌, add-one, arith, drop-cons, drop_of_length-le, length-set}
+use Rattle.std.proofs.Common.{◌≡◌, refl, List, [], ◌∷◌, ℕ, suc, ◌+◌, ◌≤◌, ◌<◌, length, get_or, set, drop, ap, ◌∙◌}
+use Rattle.std.proofs.Common.{add-one, arith, drop-cons, drop_of_length-le, length-set}
 use Rattle.answer.specs.AfterCall.{written}
 use Rattle.answer.specs.Content.{Pending}
 use Rattle.answer.specs.ContentLaws.{written_one, written_whole, pending_rest, pending_none}
