@@ -64,7 +64,7 @@ def together():
 def main():
     signatures = [f"{name}{signature}" for name, signature, _, _, _ in functions()]
     points = [
-        ("1 enums and structs of the shape of Option or Result", lines(r"^(pub )?(enum|struct) ")),
+        ("1 enums and structs of the shape of Option or Result", lines(r"^(pub(\(crate\))? )?(enum|struct) ")),
         ("1 orders and kinds as numbers", [s for s in signatures if re.search(r"\b(order|kind|number|said): u32", s)]),
         ("2 pairs of functions whose bodies are three quarters the same", twins()),
         ("3 loops with a condition", lines(r"^\s*(while|loop)\b|= loop\b")),

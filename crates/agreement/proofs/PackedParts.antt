@@ -6,6 +6,8 @@ use Prim.Native.Nat.{ℕ, min, ◌+◌, ◌-◌, ◌*◌, ◌/◌, ◌%◌, ◌<
 use native.Mathlib.Omega.{arith}
 use native.Mathlib.Decide.{dec_lt}
 use native.Mathlib.Nat.{min-le_left, min-le_right}
+use lib.Bits.{bit_xor}
+use lib.Count.{count_trailing_zeros}
 use lib.ListN.{length, take, drop, length-take, length-drop}
 use lib.Seq.{length-take-le, get_or-take, get_or-drop}
 use Rattle.letters.specs.Ranks.{rank_row}
@@ -13,8 +15,12 @@ use Rattle.letters.specs.RankLaws.{Bytes, bytes_inside, fitting_bytes, row_lengt
 use Rattle.agreement.specs.CommonPrefix.{common_prefix}
 use Rattle.agreement.specs.CommonPrefixLaws.{AlikeBelow, common_prefix_agreement, alike_part, common_rest, rests_agree, common_self, common_all}
 use Rattle.agreement.specs.Packed.{packed, unpacked}
-use Rattle.agreement.specs.PackedLaws.{eight_unpacked}
+use Rattle.agreement.specs.PackedLaws.{eight_unpacked, trailing_bytes}
 use Rattle.agreement.proofs.RankedAgreement.{rows_alike, bytes_then_differ}
+
+-- The zeros at the low end of 64 bits, by eights.
+pub trailing_eight : (x y : ℕ) → count_trailing_zeros 64 (bit_xor x y) / 8 ≡ common_prefix (unpacked 8 x) (unpacked 8 y)
+trailing_eight = trailing_bytes 8
 
 -- A part of a text of bytes is one of bytes.
 part_bytes : (x : List ℕ) (k m : ℕ) → Bytes x → Bytes (take m (drop k x))

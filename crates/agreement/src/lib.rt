@@ -20,6 +20,7 @@ fn packed_at(x: &[u8], k: usize) -> u64
 }
 
 // On how many of their eight bytes two such numbers agree, from the first on.
+#[tactic(auto, using(crate::proofs::PackedParts::trailing_eight))]
 fn common_bytes(x: u64, y: u64) -> usize
     ensures count { result ≡ common_prefix (unpacked 8 x) (unpacked 8 y) }
 {

@@ -1,7 +1,8 @@
 -- Buffers written step by step: nothing, one store, one part behind another, and what the whole is.
 -- Assumes nothing.
 use Rattle.std.specs.Prelude.{◌≡◌, refl, List, [], ◌∷◌, ◌++◌, ℕ, suc, ◌+◌, ◌-◌, ◌<◌, ◌≤◌, length, get_or, set, take, drop}
-use Rattle.std.proofs.Common.{sym, ap, subst, ◌∙◌, arith, zero-add, add-one, length-set, length-append, length-drop, ext_get_or, get_or-set_same, get_or-set_other, get_or-append-add, get_or-drop}
+use Rattle.std.proofs.Common.{sym, ap, subst, ◌∙◌, arith, zero-add, add-one, length-set, length-append, length-drop}
+use Rattle.std.proofs.Common.{ext_get_or, get_or-set_same, get_or-set_other, get_or-append-add, get_or-drop}
 use Rattle.std.proofs.Math.Decide.{ℕ_discrete, dec_lt}
 use Rattle.std.proofs.Math.ListN.{get_or-append}
 use Rattle.std.proofs.lemmas.List.Edits.{sets, sets-eq}

@@ -7,19 +7,40 @@ use native.Mathlib.Decide.{dec_lt}
 use native.Mathlib.Omega.{arith}
 use lib.ListN.{length, get_or}
 use borrow.Author.Tests.{lt-ltb, le-ltb}
-use Rattle.words.specs.Laws.Position.{SpanLyndon}
+use Rattle.words.specs.Laws.Position.{SpanLess, SpanLyndon}
 use Rattle.words.specs.Laws.SpanLyndon.{letters}
+use Rattle.words.specs.Laws.SuffixOrder.{NextSmaller}
 use Rattle.words.specs.Letters.{order_of}
 use Rattle.answer.specs.Limits.{max_length}
 use Rattle.answer.specs.Content.{Kept}
+use Rattle.std.specs.declared.cmp.Ordering.{Ordering}
+use Rattle.std.specs.declared.cmp.Ordering.TheVariants.{Less, Equal, Greater}
 use Rattle.array.specs.declared.factor.Factor.{Factor}
-use Rattle.array.specs.Core.Join.{Outside, Agreeing, CompareReady}
+use Rattle.array.specs.Core.Join.{Stopped, Outside, Agreeing}
 use Rattle.array.specs.Core.Joining.{Joining}
-use Rattle.array.specs.Core.Place.{remembered_at}
+use Rattle.array.specs.Core.Place.{factor_at, remembered_at}
 use Rattle.array.specs.Core.Rows.{entry_of, RowsOf}
 use Rattle.array.proofs.Entries.{entry_next, entry_own}
 use Rattle.array.proofs.Known.{Known, known_letter, known_word}
 use Rattle.array.proofs.RowLaws.{Front, front}
+
+-- What the comparison of the word from i to j with the factor at j says, and on how many letters k they agree.
+abbrev pub Compared : ℕ → List ℕ → ℕ → ℕ → ℕ → Ordering → Type 0
+Compared order x i j k Less =
+    Agreeing x i j k × SpanLess (order_of order) (letters 0 x) i j j (j + entry_of order x j)
+Compared order x i j k Equal =
+    Agreeing x i j k × NextSmaller (order_of order) (letters 0 x) (length x) i j × Stopped order x i j k Equal
+Compared order x i j k Greater =
+    Agreeing x i j k × NextSmaller (order_of order) (letters 0 x) (length x) i j × Stopped order x i j k Greater
+
+-- What comparing asks for: the word from i is joined up to the factor f of the buffer, and agrees with it on k letters.
+pub record CompareReady (order : ℕ) (x buf : List ℕ) (i : ℕ) (f : Factor) (k : ℕ) : Type 0 where
+  pub fits : length x ≤ length buf
+  pub small : length x ≤ max_length
+  pub inside : f.start < length x
+  pub is_factor : f ≡ factor_at buf f.start
+  pub part : ℕ
+  pub joining : Joining (order_of order) (letters 0 x) (length x) (entry_of order x) (letters 0 buf) i f.start k part
 
 -- The state of the join loop of position i: the buffer at the start, the buffer now, and how far it has come.
 pub record JoinLoop (order : ℕ) (x before buf : List ℕ) (i j k g : ℕ) : Type 0 where
@@ -80,7 +101,3 @@ comparing {order} {x} {buf} {f = f} w =
       known = known;
       short = omega (arith, known.short);
     }
-
--- The letters that agree where the comparison begins.
-pub agreeing_start : {order : ℕ} {x buf : List ℕ} {i k : ℕ} {f : Factor} → CompareReady order x buf i f k → Agreeing x i f.start k
-agreeing_start w = record { agree = w.joining.agree w.inside; within = w.joining.within w.inside }

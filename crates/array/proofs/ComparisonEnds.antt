@@ -20,10 +20,10 @@ use Rattle.std.specs.declared.cmp.Ordering.{Ordering}
 use Rattle.std.specs.declared.cmp.Ordering.TheVariants.{Less, Equal, Greater}
 use Rattle.letters.specs.Compared.{comparison_of}
 use Rattle.letters.specs.Keyed.{letters_differ}
-use Rattle.array.specs.Core.Join.{Agreeing, Compared}
+use Rattle.array.specs.Core.Join.{Agreeing}
 use Rattle.array.specs.Core.Place.{settled_at}
 use Rattle.array.specs.Core.Rows.{entry_of}
-use Rattle.array.proofs.Comparing.{Comparing}
+use Rattle.array.proofs.Comparing.{Compared, Comparing}
 use Rattle.array.proofs.Entries.{letters_compared, entry_next}
 use Rattle.array.proofs.Leaving.{leave_letter, leave_prefix, never_past}
 use Rattle.array.proofs.Settled.{settled_none, settled_word, settled_leap, settled_open}

@@ -14,17 +14,17 @@ use Rattle.std.specs.declared.cmp.Ordering.TheVariants.{Less, Equal, Greater}
 use Rattle.answer.specs.ContentLaws.{kept_then, kept_where}
 use Rattle.answer.specs.Limits.{max_length}
 use Rattle.array.specs.declared.factor.Factor.{Factor}
-use Rattle.array.specs.Core.Join.{Stopped, JoinedTo, Agreeing, Compared, CompareReady}
+use Rattle.array.specs.Core.Join.{Stopped, JoinReady, JoinedTo, Agreeing}
 use Rattle.array.specs.Core.Place.{factor_at, restored_at}
 use Rattle.array.specs.Core.Rows.{entry_of}
-use Rattle.array.proofs.Comparing.{JoinLoop, Comparing, comparing}
+use Rattle.array.proofs.Comparing.{Compared, CompareReady, JoinLoop, Comparing, comparing}
 use Rattle.array.proofs.Entries.{entry_next, entry_own}
 use Rattle.array.proofs.JoiningLaws.{joining_agreed, joining_step}
 use Rattle.array.proofs.Leaving.{leave_end}
 use Rattle.array.proofs.RestoredPlace.{restored_others, restored_one}
 
 -- What comparing with the factor at j asks for.
-pub compare_ready : {order : ℕ} {x before buf : List ℕ} {i j k g n : ℕ} {f : Factor} → JoinLoop order x before buf i j k g → length x ≤ length before →
+compare_ready : {order : ℕ} {x before buf : List ℕ} {i j k g n : ℕ} {f : Factor} → JoinLoop order x before buf i j k g → length x ≤ length before →
     length x ≤ max_length → n ≡ length x → j < n → f ≡ factor_at buf j → CompareReady order x buf i f k
 compare_ready {order} {x} {buf = buf} {i = i} {j} {k} {g} {f = f} w fits small size inside e =
     rw e
@@ -37,9 +37,14 @@ compare_ready {order} {x} {buf = buf} {i = i} {j} {k} {g} {f = f} w fits small s
       joining = w.joining;
     })
 
+-- What is known there.
+pub word_compared : {order : ℕ} {x before buf : List ℕ} {i j k g n : ℕ} {f : Factor} → JoinReady order x before i → JoinLoop order x before buf i j k g →
+    n ≡ length x → j < n → f ≡ factor_at buf j → Comparing order x buf i f.start f.length f.known
+word_compared ready w size inside e = comparing (compare_ready w ready.fits ready.small size inside e)
+
 -- It is joined: the next state of the loop.
-module _ {order : ℕ} {x before buf : List ℕ} {i j k₀ g₀ n : ℕ} {f : Factor} (w : JoinLoop order x before buf i j k₀ g₀) (fits : length x ≤ length before)
-    (small : length x ≤ max_length) (size : n ≡ length x) (inside : j < n) (e : f ≡ factor_at buf j) where
+module _ {order : ℕ} {x before buf : List ℕ} {i j k₀ g₀ n : ℕ} {f : Factor} (ready : JoinReady order x before i) (w : JoinLoop order x before buf i j k₀ g₀)
+    (size : n ≡ length x) (inside : j < n) (e : f ≡ factor_at buf j) where
   pub join_step : {after : List ℕ} {k k' : ℕ} {v : Ordering} → Compared order x i f.start k v → v ≡ Less → after ≡ restored_at buf f.start f.length →
       k' ≡ min k f.known → JoinLoop order x before after i (j + f.length) k' k
   join_step {after} {k} {k'} told is_below changed least =
@@ -62,7 +67,7 @@ module _ {order : ℕ} {x before buf : List ℕ} {i j k₀ g₀ n : ℕ} {f : Fa
       within = omega arith
 
       cw : Comparing order x buf i j f.length f.known
-      cw = subst (λ (t : ℕ). Comparing order x buf i t f.length f.known) (ap (λ (h : Factor). h.start) e) (comparing (compare_ready w fits small size inside e))
+      cw = subst (λ (t : ℕ). Comparing order x buf i t f.length f.known) (ap (λ (h : Factor). h.start) e) (word_compared ready w size inside e)
 
       m : ℕ
       m = entry_of order x j

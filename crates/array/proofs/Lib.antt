@@ -12,7 +12,6 @@ pub mod ComparisonEnds
 pub mod JoinSteps
 pub mod Filling
 pub mod Restoring
-pub mod ArrayWritten
 pub mod Extension
 pub mod LeftExtension
 pub mod RunEntry

@@ -1,6 +1,6 @@
 -- A visited position: its word is joined and stored, and its run listed.
 -- Assumes nothing.
-use mathlib.Core.Path.{◌≡◌, refl, subst, sym}
+use mathlib.Core.Path.{◌≡◌, refl, subst, sym, ◌∙◌}
 use mathlib.Core.List.{List}
 use Prim.Native.Nat.{ℕ, suc, ◌+◌, ◌<◌, ◌≤◌, ◌-◌, min}
 use native.Mathlib.Decide.{dec_lt, ℕ_discrete}
@@ -14,17 +14,15 @@ use Rattle.words.specs.Laws.SuffixOrder.{NextSmaller, agree_less}
 use Rattle.words.specs.Letters.{rising}
 use Rattle.std.specs.declared.cmp.Ordering.{Ordering}
 use Rattle.std.specs.declared.cmp.Ordering.TheVariants.{Less, Equal, Greater}
-use Rattle.answer.specs.ContentLaws.{kept_all}
 use Rattle.array.specs.declared.joined.Joined.{Joined}
-use Rattle.array.specs.Core.Fill.{Filled}
 use Rattle.array.specs.Core.Join.{SameWord, Stopped, JoinedTo, Agreeing}
 use Rattle.array.specs.Core.Joining.{Joining}
 use Rattle.array.specs.Core.Place.{stored_at}
-use Rattle.array.specs.Core.Rows.{entry_of, RowsOf}
+use Rattle.array.specs.Core.Rows.{entry_of}
 use Rattle.array.specs.Core.RunExtent.{StoppedAt, Exact, ExtendedTo, AtRoot}
 use Rattle.array.specs.Core.RunPass.{Listed, skipped, Visited}
 use Rattle.array.proofs.Entries.{entry_next, entry_own}
-use Rattle.array.proofs.Filling.{filled_store}
+use Rattle.array.proofs.Filling.{stored_size, rows_stored}
 use Rattle.array.proofs.JoiningLaws.{joining_agreed}
 
 module _ (x before buf : List ℕ) (i : ℕ) (r : Joined) (w : JoinedTo 0 x before buf i r) where
@@ -116,12 +114,15 @@ module _ (x before buf : List ℕ) (i : ℕ) (r : Joined) (w : JoinedTo 0 x befo
       go Greater e t = absurd (t refl)
 
 -- A visited position: its row is stored, and its run is listed.
-pub visited : (order : ℕ) (x before buf after list list' : List ℕ) (i k count m : ℕ) (r : Joined) → RowsOf 0 x before (i + 1) →
+pub visited : (order : ℕ) (x before buf after list list' : List ℕ) (i k count m : ℕ) (r : Joined) →
     length x ≤ length before → JoinedTo 0 x before buf i r → ExtendedTo x i r.end k r.stop →
     after ≡ stored_at buf i r.end (min k r.part) → Listed order x list list' i count m → Visited order x before after list list' i count m
-visited order x before buf after list list' i k count m r rows fits w e stored l =
-    let kept : Filled 0 x before before (i + 1) = record { rows = rows; others = kept_all before } in
-    let f =
-    filled_store 0 x before before buf i r.end k r.part (min k r.part) kept fits w.changed
-    (extended_joining x before buf i r w k e) w.next (omega arith) (omega arith) in
-    rw stored (record { rows = f.rows; others = f.others; entry = l })
+visited order x before buf after list list' i k count m r fits w e stored l =
+    rw stored
+    (record {
+      rows =
+          rows_stored 0 x buf i r.end k r.part (min k r.part) (omega (arith, w.changed.size)) (extended_joining x before buf i r w k e) w.next (omega arith)
+          (omega arith);
+      size = stored_size buf i r.end (min k r.part) ∙ w.changed.size;
+      entry = l;
+    })

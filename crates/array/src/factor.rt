@@ -4,7 +4,8 @@ ghost use Rattle.answer.specs.Limits.{max_length};
 ghost use Rattle.array.specs.Core.Place.{factor_at, settled_at, restored_at};
 ghost use Rattle.array.specs.Core.Fill.{HasRows, AllRestored};
 
-// A factor: where it starts, its length, and the number remembered at its last place, 0 for a single letter.
+// A factor: where it starts, its length, and on how many letters it is known to agree with what follows it and with its last part, as its last place
+// remembers. Of a single letter nothing is remembered, and no letters are known to agree: 0 is their number and no mark.
 #[derive(Clone, Copy)]
 pub(crate) struct Factor {
     pub(crate) start: usize,
@@ -60,15 +61,15 @@ impl Factor {
     }
 }
 
-// Gives the last places of all factors of the first n places their entries back.
-// The number of places stands beside the buffer: a caller of C may lend a longer one.
-pub(crate) fn restore_all(buf: &mut [u32], n: usize)
-    requires { HasRows buf.old n }
-    ensures content { AllRestored buf.old buf.new n }
+// Gives the last places of all factors their entries back.
+#[tactic(auto, using(crate::proofs::Restoring::restoring))]
+pub(crate) fn restore_all(buf: &mut [u32])
+    requires { HasRows buf.old }
+    ensures content { AllRestored buf.old buf.new }
 {
     let mut j: usize = 0;
     // A while loop: the step is the length of the factor, not 1.
-    while j < n {
+    while j < buf.len() {
         let factor = Factor::at(buf, j);
         factor.restore(buf);
         j += factor.length;

@@ -1,7 +1,7 @@
 // The join loop of document 002 (LONGESTLYNDON), and the array that it makes.
-ghost use Rattle.std.specs.Prelude.{◌≡◌, min};
-ghost use Rattle.answer.specs.AfterCall.{written};
-ghost use Rattle.answer.specs.Content.{TextRoom};
+ghost use Rattle.std.specs.Prelude.{◌≡◌, ◌≤◌, length, min};
+ghost use Rattle.answer.specs.Answers.{accepted_with};
+ghost use Rattle.answer.specs.Limits.{max_length};
 ghost use Rattle.array.specs.Core.Join.{JoinReady, JoinedTo};
 ghost use Rattle.array.specs.Core.Place.{StoreReady, stored_at};
 ghost use Rattle.words.specs.Compute.LyndonArray.{array_of};
@@ -10,10 +10,11 @@ ghost use Rattle.words.specs.Decided.{decided_order};
 use crate::factor;
 use crate::factor::Factor;
 use crate::text::Text;
+use answer::Answer;
 use std::cmp::Ordering;
 
 // The word from a position was joined up to `end`: it agrees with what follows on `agreed` letters and with its last part on `part`;
-// `stop` is the comparison that ended the joining, `Greater` at the end of the text.
+// `stop` is the comparison that ended the joining, `Greater` at the end of the text: what follows is the same there, so an `Option` is no plainer.
 #[derive(Clone, Copy)]
 pub struct Joined {
     pub end: usize,
@@ -93,13 +94,18 @@ pub(crate) fn join<T: Text>(text: T, buf: &mut [u32], i: usize) -> Joined
     }
 }
 
-// Writes the Lyndon array of the text: joins at every position from the last to the first, and then gives the last places their entries back.
-pub(crate) fn compute<T: Text>(text: T, buf: &mut [u32])
-    requires { TextRoom (T.values text) buf.old }
-    ensures content { buf.new ≡ written (array_of (decided_order (T.order text)) (T.values text)) buf.old }
+// Writes the Lyndon array of the text into a buffer of its length: joins at every position from the last to the first, and then gives the last
+// places their entries back. Accepts with the number of letters.
+#[tactic(auto, using(crate::proofs::Filling::filling))]
+pub(crate) fn compute<T: Text>(text: T, buf: &mut [u32]) -> Answer
+    requires size { length buf.old ≡ length (T.values text) }
+    requires short { length (T.values text) ≤ max_length }
+    ensures answer { result ≡ accepted_with (length (T.values text)) }
+    ensures content { buf.new ≡ array_of (decided_order (T.order text)) (T.values text) }
 {
     for i in (0..text.len()).rev() {
         join(text, buf, i).store(buf, i);
     }
-    factor::restore_all(buf, text.len());
+    factor::restore_all(buf);
+    answer::accept(text.len() as u32)
 }

@@ -11,6 +11,7 @@ use answer::Answer;
 
 // The Lyndon array of a text of 32-bit letters, in order 0 (rising) or 1 (falling): for every position the length of the longest Lyndon word
 // that starts there. Refused by document 01's checks 1, 2, 3 and 4.
+// What it shares with the array of bytes is `joined::compute`; C calls each by its name.
 // The order is a number, as C gives it.
 pub fn lyndon_array(text: &[u32], order: u32, out: &mut [u32]) -> Answer
     ensures answer { result ≡ array_answer (length text.now) order (length out.old) }
@@ -20,6 +21,5 @@ pub fn lyndon_array(text: &[u32], order: u32, out: &mut [u32]) -> Answer
         return Answer::from(refusal);
     }
     let order = letters::direction(order);
-    joined::compute(Numbers { text, order }, out);
-    answer::accept(text.len() as u32)
+    joined::compute(Numbers { text, order }, &mut out[..text.len()])
 }

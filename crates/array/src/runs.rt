@@ -66,7 +66,7 @@ fn start_of(text: Keyed<'_>, i: usize, p: usize) -> usize
     0
 }
 
-// The entries found so far, in the first places of the list.
+// The entries found so far, in the first places of the list. No `Vec`, since there is no heap: the list is the caller's, and `count` is how many are found.
 #[derive(Drop)]
 struct Found<'a> {
     list: &'a mut [u32],
@@ -74,7 +74,7 @@ struct Found<'a> {
 }
 
 impl Found<'_> {
-    // Adds a run.
+    // Adds a run: three numbers, as C's list has them.
     fn push(&mut self, start: usize, last: usize, period: usize)
         requires room { 3 * self.old.count + 3 ≤ length self.old.list.now }
         requires small { (start ≤ max_length) × (last ≤ max_length) × (period ≤ max_length) }
@@ -168,48 +168,49 @@ impl<M: Measure> Pass<'_, M> {
     fn run(&self, buf: &mut [u32], found: &mut Found<'_>)
         requires { PassReady (order_number self.now.order) (row self.now.text) buf.old found.old.list.now found.old.count }
         ensures same_list { found.new.list.ghost_name ≡ found.old.list.ghost_name }
-        ensures content { OrderDone decided_rising (order_number self.now.order) (row self.now.text) buf.old buf.new found.old.list.now found.new.list.now found.old.count found.new.count }
+        ensures content { OrderDone decided_rising (order_number self.now.order) (row self.now.text) buf.new found.old.list.now found.new.list.now found.old.count found.new.count }
     {
         for i in (0..self.text.len()).rev() {
             self.visit(buf, found, i);
         }
-        factor::restore_all(buf, self.text.len());
+        factor::restore_all(buf);
     }
 }
 
-// Both orders, the runs sorted by start and then by last position; the number of runs.
-fn find<M: Measure>(text: Keyed<'_>, measure: M, work: &mut [u32], list: &mut [u32]) -> usize
+// Both orders, the runs sorted by start and then by last position; the answer has their number.
+fn find<M: Measure>(text: Keyed<'_>, measure: M, work: &mut [u32], list: &mut [u32]) -> Answer
     requires text { Bytes text.text.now }
     requires keys { Bytes text.keys.now }
     requires find_ready { FindReady (row text) work.old list.old }
     ensures content { RunsFound (row text.entry) work.old work.new list.old list.new result }
 {
+    let n = text.len();
     let mut found = Found { list, count: 0 };
     let rising = Pass {
         text,
         order: Order::Rising,
         measure,
     };
-    rising.run(work, &mut found);
+    rising.run(&mut work[..n], &mut found);
     let keys = letters::turned_table(text.keys);
     let falling = Pass {
         text: Keyed {
-            text: text.text,
             keys: &keys,
+            ..text
         },
         order: Order::Falling,
         measure,
     };
-    let n = text.len();
-    falling.run(&mut work[n..], &mut found);
+    falling.run(&mut work[n..2 * n], &mut found);
     let count = found.count;
     sorting::sort_triples(list, count);
-    count
+    answer::accept(count as u32)
 }
 
 // All runs of a text of bytes: start, last position and period of each, by start and then by last position. Afterwards the work buffer
 // holds the rising Lyndon array of the text and then the falling one. Refused by document 01's checks 1, 2, 4 and 5, the list's length being
 // document 02's (E4).
+#[tactic(auto, using(letters::specs::RankLaws::fitting_bytes, crate::proofs::AnswerLaws::plain_row, crate::proofs::AnswerLaws::found_as))]
 pub fn runs(text: &[u8], work: &mut [u32], list: &mut [u32]) -> Answer
     ensures answer { result ≡ runs_answer text.now (length work.old) (length list.old) }
     ensures entries { list.new ≡ content_after result (run_numbers text.now) list.old }
@@ -218,13 +219,14 @@ pub fn runs(text: &[u8], work: &mut [u32], list: &mut [u32]) -> Answer
     if let Err(refusal) = checks::runs(text.len(), list.len(), work.len()) {
         return Answer::from(refusal);
     }
+    // Order 0 looks at no table: each byte counts as its own number.
     let keys = letters::rank_table(0, &[]);
-    let count = find(Keyed { text, keys: &keys }, Eights, work, list);
-    answer::accept(count as u32)
+    find(Keyed { text, keys: &keys }, Eights, work, list)
 }
 
 // The same by the ranks of a table: letters with one rank count as the same. Afterwards the work buffer holds the Lyndon array rising by
-// rank and then the one falling by rank. Refused by document 02's checks 1, 2, 16, 4 and 5.
+// rank and then the one falling by rank. Refused by document 02's checks 1, 2, 16, 4 and 5. It differs from `runs` in its check, keys and measure.
+#[tactic(auto, using(letters::specs::RankLaws::fitting_bytes, crate::proofs::AnswerLaws::ranked_row, crate::proofs::AnswerLaws::found_as))]
 pub fn runs_ranked(text: &[u8], table: &[u8], work: &mut [u32], list: &mut [u32]) -> Answer
     ensures answer { result ≡ runs_ranked_answer table.now text.now (length work.old) (length list.old) }
     ensures entries { list.new ≡ content_after result (run_numbers (rank_row table.now text.now)) list.old }
@@ -234,6 +236,5 @@ pub fn runs_ranked(text: &[u8], table: &[u8], work: &mut [u32], list: &mut [u32]
         return Answer::from(refusal);
     }
     let keys = letters::rank_table(limits::RANKED, table);
-    let count = find(Keyed { text, keys: &keys }, Singly, work, list);
-    answer::accept(count as u32)
+    find(Keyed { text, keys: &keys }, Singly, work, list)
 }

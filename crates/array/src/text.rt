@@ -8,7 +8,8 @@ ghost use Rattle.letters.specs.Keyed.{row, letters_differ};
 use letters::{Keyed, Order};
 use std::cmp::Ordering;
 
-// A text whose letters the join loop compares.
+// A text whose letters the join loop compares. That positions lie inside it is a clause of each method: a type of such positions would hold the length
+// too, and be no plainer.
 pub(crate) trait Text: Copy {
     // Its letters as numbers.
     ghost values: { Self → List ℕ };
@@ -33,7 +34,8 @@ pub(crate) trait Text: Copy {
         ensures answer { result ≡ comparison_of ((decided_order (order self)).compare (get_or (values self) i 0) (get_or (values self) j 0)) };
 }
 
-// In every order the smaller key is the smaller letter.
+// In every order the smaller key is the smaller letter. Letters at positions are no matter of `Keyed` itself, which is public: public functions have no
+// `requires`.
 impl Text for Keyed<'_> {
     ghost values = { row };
 

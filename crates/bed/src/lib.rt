@@ -25,8 +25,10 @@ pub const MAX_LINE: usize = MAX_NAME + 5 + 3 * MAX_DIGITS;
 const MAX_REFUSAL: usize = 13 + 2 * MAX_DIGITS;
 
 // Writes the lines of the first `count` runs of the list `runs`, or nothing (0 bytes) where the name has over 60 bytes, the list fewer runs, or `out` fewer
-// places than the longest lines take. The count is compared with quotients, so that no product of it can wrap.
+// places than the longest lines take. The count is compared with quotients, so that no product of it can wrap; it stands beside the list, since a count
+// too large is part of what is promised.
 // 0, and no Option: the contract is one equation with the bytes that are written, which are none then.
+#[tactic(auto, using(answer::specs::ContentLaws::written_as, crate::specs::Laws::Bed::rows_fitting))]
 pub fn write_lines(name: &[u8], runs: &[u32], count: usize, out: &mut [u8]) -> usize
     ensures content { Written out.old out.new 0 result (lines_fitting name.now runs.now count (length out.old)) }
 {
@@ -38,7 +40,7 @@ pub fn write_lines(name: &[u8], runs: &[u32], count: usize, out: &mut [u8]) -> u
 }
 
 // Writes the line of a refusal, with its number and position, or nothing (0 bytes) where `out` has fewer places than the longest such line takes.
-// 0, and no Option, as above. Number and position are those that are printed.
+// 0, and no Option, as above. Number and position, and no `Refused`: any two can be printed.
 pub fn write_refusal(number: u32, position: u32, out: &mut [u8]) -> usize
     ensures content { Written out.old out.new 0 result (refusal_fitting number position (length out.old)) }
 {

@@ -10,7 +10,7 @@ ghost use Rattle.bed.specs.Text.{Room, Wrote};
 use crate::text::Text;
 use fasta_record::bytes::LINE_END;
 
-// Writes the line of the run with this start, last position and period.
+// Writes the line of the run with this start, last position and period: three numbers, as C's list has them.
 fn write_line(name: &[u8], start: u32, last: u32, period: u32, text: &mut Text)
     requires { Room text.old (length (bed_line name.now (entry_with start last period))) }
     ensures wrote { Wrote text.old text.new (bed_line name.now (entry_with start last period)) }

@@ -4,7 +4,7 @@ ghost use Rattle.std.specs.Prelude.{◌≡◌, ◌+◌, [], ◌∷◌, ◌++◌,
 ghost use Rattle.bed.specs.Decimal.{decimal_of};
 ghost use Rattle.bed.specs.Text.{Room, Wrote};
 
-// The first `len` bytes of `out` are written.
+// The first `len` bytes of `out` are written. No `String`, since there is no heap.
 #[derive(Drop)]
 pub(crate) struct Text<'a> {
     out: &'a mut [u8],

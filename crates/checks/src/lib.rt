@@ -1,4 +1,9 @@
 // The checks that calls begin with: together for each kind of call, below one by one. The first that fails is the call's answer.
+//
+// Calls whose checks are alike but for the order and its table (those on texts, forests and runs) name the same checks; a function for the two that they
+// share would be no plainer, and would hide their order. Parameters of one meaning have different names where must-fail edits tell lines apart by them.
+// Flags are answers of tests that the caller made, checked as lengths are: no step is switched by them.
+//
 // Contracts cite `specs/Checks.antt`. Nothing is assumed.
 #![tactic(auto)]
 
@@ -10,7 +15,7 @@ ghost use Rattle.answer.specs.Answers.{refused_if};
 ghost use Rattle.checks.specs.Checks.{Refuses, empty_checked, limit_checked, length_checked, order_checked, output_checked, work_checked};
 ghost use Rattle.checks.specs.Checks.{input_checked, text_checked, ordered_text_checked, forest_checked, runs_checked, reader_checked};
 ghost use Rattle.checks.specs.Checks.{uses_table, table_checked, ranked_checked, ranked_text_checked, ranked_forest_checked, ranked_runs_checked};
-ghost use Rattle.checks.specs.Checks.{existence_checked, usable_checked, table_use_checked, table_write_checked};
+ghost use Rattle.checks.specs.Checks.{existence_checked, table_use_checked, table_write_checked};
 ghost use Rattle.checks.specs.Checks.{lyndon_checked, two_texts_checked};
 
 use answer::{Reason, Refused};
@@ -63,7 +68,10 @@ fn ranked(size: usize, number: u32, entries: usize) -> Result<(), Refused>
 {
     length(size)?;
     order(limits::RANKED, number)?;
-    table(number == limits::RANKED, entries)
+    if number == limits::RANKED {
+        return table(entries);
+    }
+    Ok(())
 }
 
 // 1, 2, 3, 16 and 4: such a call that needs as many places.
@@ -101,7 +109,7 @@ pub fn forest(n: usize, first: usize, past: usize) -> Result<(), Refused>
     output(n, past)
 }
 
-// 1, 2, 4 and 5: the runs of n letters, with the lengths of list and work buffer.
+// 1, 2, 4 and 5: the runs of so many letters, with the lengths of list and work buffer.
 pub fn runs(size: usize, list: usize, buffer: usize) -> Result<(), Refused>
     ensures check { Refuses result (runs_checked size list buffer) }
     ensures passed { OnOk result (Sized size × (run_list_length size ≤ list) × (work_length size ≤ buffer)) }
@@ -111,24 +119,24 @@ pub fn runs(size: usize, list: usize, buffer: usize) -> Result<(), Refused>
     run_work(size, buffer)
 }
 
-// 1, 2, 16, 4 and 5: the runs of n letters by a rank table.
+// 1, 2, 16, 4 and 5: the same by a rank table, with its length.
 pub fn ranked_runs(size: usize, entries: usize, places: usize, work: usize) -> Result<(), Refused>
     ensures check { Refuses result (ranked_runs_checked size entries places work) }
     ensures passed { OnOk result (Sized size × (entries ≡ table_length) × (run_list_length size ≤ places) × (work_length size ≤ work)) }
 {
     length(size)?;
-    table(true, entries)?;
+    table(entries)?;
     run_list(size, places)?;
     run_work(size, work)
 }
 
-// 21 and 22: a call that uses or reads a table of a store.
+// 21 and 22: a call that uses or reads a table of a store, which is usable if it is a built-in one or was written.
 pub fn table_use(there: bool, usable: bool) -> Result<(), Refused>
     ensures check { Refuses result (table_use_checked there usable) }
     ensures passed { OnOk result ((there ≡ true) × (usable ≡ true)) }
 {
     existence(there)?;
-    usability(usable)
+    refuse_if(!usable, Reason::UnwrittenTable, 0)
 }
 
 // 21 and 16: a call that writes a table of a store.
@@ -137,7 +145,7 @@ pub fn table_write(exists: bool, given: usize) -> Result<(), Refused>
     ensures passed { OnOk result ((exists ≡ true) × (given ≡ table_length)) }
 {
     existence(exists)?;
-    table(true, given)
+    table(given)
 }
 
 // 4 and 15: the reader, on an input of n bytes.
@@ -187,15 +195,11 @@ fn order(last: u32, order: u32) -> Result<(), Refused>
 }
 
 // 16: a rank table that is used has an entry for each byte.
-fn table(used: bool, entries: usize) -> Result<(), Refused>
-    ensures check { Refuses result (table_checked used entries) }
-    ensures passed { OnOk result (used ≡ true → entries ≡ table_length) }
+fn table(entries: usize) -> Result<(), Refused>
+    ensures check { Refuses result (table_checked true entries) }
+    ensures passed { OnOk result (entries ≡ table_length) }
 {
-    refuse_if(
-        used && entries != limits::TABLE_LENGTH,
-        Reason::WrongTable,
-        0,
-    )
+    refuse_if(entries != limits::TABLE_LENGTH, Reason::WrongTable, 0)
 }
 
 // 21: the table of a store that a call names exists.
@@ -204,14 +208,6 @@ fn existence(there: bool) -> Result<(), Refused>
     ensures passed { OnOk result (there ≡ true) }
 {
     refuse_if(!there, Reason::UnknownTable, 0)
-}
-
-// 22: it is a built-in table, or was written.
-fn usability(usable: bool) -> Result<(), Refused>
-    ensures check { Refuses result (usable_checked usable) }
-    ensures passed { OnOk result (usable ≡ true) }
-{
-    refuse_if(!usable, Reason::UnwrittenTable, 0)
 }
 
 // 17: a text that must be a Lyndon word is one.
@@ -230,14 +226,6 @@ pub fn output(needed: usize, given: usize) -> Result<(), Refused>
     refuse_if(given < needed, Reason::ShortOutput, 0)
 }
 
-// 5: the work buffer has the places needed.
-fn work(needed: usize, given: usize) -> Result<(), Refused>
-    ensures check { Refuses result (work_checked needed given) }
-    ensures passed { OnOk result (needed ≤ given) }
-{
-    refuse_if(given < needed, Reason::ShortWork, 0)
-}
-
 // 4, of the run list of n letters: three places for each of n − 1 runs. n is compared with the runs that have room and one more, so that
 // neither a product nor a difference can wrap.
 fn run_list(n: usize, given: usize) -> Result<(), Refused>
@@ -252,7 +240,7 @@ fn run_work(n: usize, given: usize) -> Result<(), Refused>
     ensures check { Refuses result (work_checked (work_length n) given) }
     ensures passed { OnOk result (work_length n ≤ given) }
 {
-    work(n, given / limits::WORK_PLACES)
+    refuse_if(given / limits::WORK_PLACES < n, Reason::ShortWork, 0)
 }
 
 // 15: the input of the reader has at most as many bytes as its limit.

@@ -1,6 +1,6 @@
 // The limits of documents 01 and 02 that the calls share, named here and in the file `Limits` of `answer`. Nothing is assumed.
 ghost use Rattle.std.specs.Prelude.{◌≡◌};
-ghost use Rattle.answer.specs.Limits.{max_letters, prefix_count};
+ghost use Rattle.answer.specs.Limits.{prefix_count};
 
 // The most letters of a text, or entries of an array.
 pub const MAX_LENGTH: usize = 1_048_576;
@@ -22,13 +22,6 @@ pub const RANKED: u32 = 2;
 
 // The entries of a rank table.
 pub const TABLE_LENGTH: usize = 256;
-
-// `MAX_LETTERS`, as the limit that contracts name.
-pub fn max_letters() -> usize
-    ensures limit { result ≡ max_letters }
-{
-    MAX_LETTERS
-}
 
 // The proper non-empty prefixes of a word of n letters; none where n is 0.
 pub fn prefix_count(n: usize) -> usize

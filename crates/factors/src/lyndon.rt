@@ -2,7 +2,7 @@
 ghost use Rattle.std.specs.Prelude.{◌≡◌};
 ghost use Rattle.factors.specs.LyndonTest.{lyndon_within};
 
-use super::scan::scan;
+use super::scan::Ordered;
 use checks::limits;
 use letters::{Keyed, Order};
 
@@ -15,6 +15,9 @@ pub fn is_lyndon(text: &[u8]) -> bool
         return false;
     }
     let keys = letters::built_in::table(0);
-    let s = scan(Keyed { text, keys: &keys }, Order::Rising, 0);
-    s.period == text.len()
+    let ordered = Ordered {
+        letters: Keyed { text, keys: &keys },
+        order: Order::Rising,
+    };
+    ordered.scan(0).period == text.len()
 }

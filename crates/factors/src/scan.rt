@@ -27,31 +27,41 @@ impl Stretch {
     }
 }
 
-// How the letters at i and j compare.
-pub(crate) fn compare(text: Keyed, i: usize, j: usize, order: Order) -> Ordering
-    requires first { i < length (row text) }
-    requires second { j < length (row text) }
-    ensures answer { result ≡ comparison_of ((decided_order (order_number order)).compare (get_or (row text.entry) i 0) (get_or (row text.entry) j 0)) }
-{
-    letters::compare_ranks(text.keys, text.text[i], text.text[j], order)
+// A text by the ranks of a table, and the order that its letters are compared in.
+#[derive(Clone, Copy)]
+pub(crate) struct Ordered<'a> {
+    pub(crate) letters: Keyed<'a>,
+    pub(crate) order: Order,
 }
 
-// The scan from `start` up to a smaller letter or the end of the text.
-pub(crate) fn scan(text: Keyed, order: Order, start: usize) -> Stretch
-    requires { start < length (row text) }
-    ensures bounded { Bounded (length (row text.entry)) start result }
-    ensures stretch { (asked : ℕ) → result ≡ stretch_of (scan_of (decided_order (order_number order)) 0 (row text.entry) start asked) }
-{
-    let mut period: usize = 1;
-    for end in start + 1..text.len() {
-        match compare(text, end, end - period, order) {
-            Ordering::Less => return Stretch { period, end },
-            Ordering::Equal => {}
-            Ordering::Greater => period = end + 1 - start,
-        }
+impl Ordered<'_> {
+    // How the letters at i and j compare. No method of `Keyed`, which is public: public functions have no `requires`.
+    pub(crate) fn compare(self, i: usize, j: usize) -> Ordering
+        requires first { i < length (row self.letters) }
+        requires second { j < length (row self.letters) }
+        ensures answer { result ≡ comparison_of ((decided_order (order_number self.entry.order)).compare (get_or (row self.entry.letters) i 0) (get_or (row self.entry.letters) j 0)) }
+    {
+        let Keyed { text, keys } = self.letters;
+        letters::compare_ranks(keys, text[i], text[j], self.order)
     }
-    Stretch {
-        period,
-        end: text.len(),
+
+    // The scan from `start` up to a smaller letter or the end of the text.
+    pub(crate) fn scan(self, start: usize) -> Stretch
+        requires { start < length (row self.letters) }
+        ensures bounded { Bounded (length (row self.entry.letters)) start result }
+        ensures stretch { (asked : ℕ) → result ≡ stretch_of (scan_of (decided_order (order_number self.entry.order)) 0 (row self.entry.letters) start asked) }
+    {
+        let mut period: usize = 1;
+        for end in start + 1..self.letters.len() {
+            match self.compare(end, end - period) {
+                Ordering::Less => return Stretch { period, end },
+                Ordering::Equal => {}
+                Ordering::Greater => period = end + 1 - start,
+            }
+        }
+        Stretch {
+            period,
+            end: self.letters.len(),
+        }
     }
 }

@@ -1,52 +1,81 @@
--- The letters of lines, stored byte by byte.
+-- The letters of lines, stored as they are yielded.
 -- Assumes nothing.
-use Rattle.std.proofs.Common.{◌≡◌, refl, List, [], ◌∷◌, ℕ, suc, ◌+◌, ◌≤◌, ◌<◌, length, get_or, set, drop, ap, ◌∙◌}
-use Rattle.std.proofs.Common.{add-one, arith, drop-cons, drop_of_length-le, length-set}
+use Rattle.std.specs.Prelude.{cond, Bool, true, false, Option, None, Some, filter, map}
+use Rattle.std.specs.List.{enumerate_from}
+use Rattle.std.specs.Iterator.{Yields}
+use Rattle.std.proofs.Common.{inl, inr, ◌≡◌, refl, List, [], ◌∷◌, ◌++◌, ℕ, ◌+◌, ◌-◌, ◌≤◌, ◌<◌, length, get_or, set, ap, sym, ◌∙◌, arith, zero-add, length-append}
+use Rattle.std.proofs.lemmas.Iterator.{YieldsList}
+use Rattle.std.proofs.lemmas.Iterator.Consumers.{YieldsList-turn, YieldsList-end}
+use Rattle.std.proofs.lemmas.List.FromFn.{length-enumerate_from, get_or-enumerate_from}
+use Rattle.std.proofs.lemmas.Grind.{get_or_default_zero}
 use Rattle.answer.specs.AfterCall.{written}
-use Rattle.answer.specs.Content.{Pending}
-use Rattle.answer.specs.ContentLaws.{written_one, written_whole, pending_rest, pending_none}
+use Rattle.answer.specs.Content.{Holds}
+use Rattle.answer.specs.ContentLaws.{holds_more, written_places}
 use Rattle.fasta_record.specs.declared.bytes.Kind.{Kind}
 use Rattle.fasta_record.specs.declared.bytes.Kind.TheVariants.{Letter, LineEnd, CarriageReturn, HeaderMark, Unfit}
-use Rattle.fasta_record.specs.Bytes.{kind_of, letter_of}
+use Rattle.fasta_record.specs.Bytes.{within, kind_of, letter_of}
+use Rattle.fasta.specs.Classes.{IsLetter}
+use Rattle.fasta.specs.Laws.Classes.{WithinSays, within_says, KindSays, kind_says}
+use Rattle.fasta.specs.Laws.Case.{letter_capital, letter_kind}
 use Rattle.fasta.specs.Letters.{letter_before, letters_in}
 
--- Of the lines s the first `at` bytes were read: their letters, of which there are count, are stored, and those of the others are pending.
-pub record Storing (s : List ℕ) (at : ℕ) (before now : List ℕ) (count : ℕ) : Type 0 where
-  pub size : length now ≡ length before
-  pub room : count + length (letters_in (drop at s)) ≤ length now
-  pub rest : Pending now count (letters_in (drop at s)) before 0 (letters_in s)
+abbrev pub is_letter : Kind → Bool
+is_letter Letter = true
+is_letter LineEnd = false
+is_letter CarriageReturn = false
+is_letter HeaderMark = false
+is_letter Unfit = false
 
-no_letter : (k : Kind) (b : ℕ) (l : List ℕ) → ¬ (k ≡ Letter) → letter_before k b l ≡ l
-no_letter Letter b l n = absurd (n refl)
-no_letter LineEnd b l n = refl
-no_letter CarriageReturn b l n = refl
-no_letter HeaderMark b l n = refl
-no_letter Unfit b l n = refl
+-- A byte that is no letter stays.
+other_stays : (b : ℕ) → ¬ IsLetter b → letter_of b ≡ b
+other_stays b n = go (within 97 122 b) (within_says 97 122 b)
+  where
+    go : (w : Bool) → WithinSays 97 122 b w → cond w (b - 32) b ≡ b
+    go true l = absurd (n (inr l))
+    go false m = refl
 
-module _ (s : List ℕ) (at : ℕ) (h : at < length s) where
-  letter_first : kind_of (get_or s at 0) ≡ Letter → letters_in (drop at s) ≡ letter_of (get_or s at 0) ∷ letters_in (drop (at + 1) s)
-  letter_first e = rw (drop-cons s at 0 h, e, add-one at)
+-- The letters of lines are the letters among their capitals.
+pub letters_kept : (s : List ℕ) → letters_in s ≡ filter (λ b. is_letter (kind_of b)) (map letter_of s)
+letters_kept [] = refl
+letters_kept (b ∷ s) = rw (letters_kept s) (go (kind_of b) (kind_says b) refl)
+  where
+    t : List ℕ
+    t = filter (λ b. is_letter (kind_of b)) (map letter_of s)
 
-  letter_later : ¬ (kind_of (get_or s at 0) ≡ Letter) → letters_in (drop at s) ≡ letters_in (drop (at + 1) s)
-  letter_later n = rw (drop-cons s at 0 h, add-one at) (no_letter (kind_of (get_or s at 0)) (get_or s at 0) (letters_in (drop (suc at) s)) n)
+    go : (k : Kind) → KindSays b k → kind_of b ≡ k → letter_before k b t ≡ cond (is_letter (kind_of (letter_of b))) (letter_of b ∷ t) t
+    go Letter l e = rw (letter_kind (letter_of b) (inl (letter_capital b l)))
+    go LineEnd l e = rw l
+    go CarriageReturn l e = rw l
+    go HeaderMark l e = rw l
+    go Unfit l e = rw (other_stays b l.0, e)
 
-module _ {s before now : List ℕ} {at count : ℕ} (w : Storing s at before now count) where
-  -- The next byte is a letter, for which v is handed on,
-  pub letter_stored : at < length s → kind_of (get_or s at 0) ≡ Letter → (v : ℕ) → v ≡ letter_of (get_or s at 0) →
-      Storing s (at + 1) before (set now count v) (count + 1)
-  letter_stored h e v f =
-      let first : letters_in (drop at s) ≡ v ∷ letters_in (drop (at + 1) s) = rw f (letter_first s at h e) in
-      let next : count < length now = omega (arith, w.room, ap length first) in
-      record {
-        size = length-set now count v ∙ w.size;
-        room = omega (arith, w.room, ap length first, length-set now count v);
-        rest = pending_rest {l = v ∷ []} (rw first at w.rest) (written_one now count v next);
-      }
+-- The iterator that began as `start` yields the letters l, numbered; `read` of them are stored.
+pub record Storing {S : Type 0} (steps : S → Option (ℕ × ℕ) → S → Type 0) (l before now : List ℕ) (start : S) (read : ℕ) : Type 0 where
+  pub yields : YieldsList {B = ℕ × ℕ} steps (λ p. p) start (enumerate_from 0 l)
+  pub room : length l ≤ length before
+  pub holds : Holds (λ t. get_or l t 0) read before now
 
-  -- or none.
-  pub other_passed : at < length s → ¬ (kind_of (get_or s at 0) ≡ Letter) → Storing s (at + 1) before now count
-  other_passed h n = record { size = w.size; room = rw (letter_later s at h n) at w.room; rest = rw (letter_later s at h n) at w.rest }
+module _ {S : Type 0} {steps : S → Option (ℕ × ℕ) → S → Type 0} {l before now : List ℕ} {start it it' : S} (xs : List (ℕ × ℕ)) where
+  -- A letter is yielded,
+  pub letter_stored : {k v : ℕ} → Storing steps l before now start (length xs) → Yields steps start xs it → steps it (Some (k, v)) it' →
+      (k < length now) × Storing steps l before (set now k v) start (length (xs ++ (k, v) ∷ []))
+  letter_stored {k} {v} w past step =
+      let turn = YieldsList-turn w.yields xs it past (Some (k, v)) it' (k, v) refl step in
+      let inside : length xs < length l = omega (arith, turn.0, length-enumerate_from 0 l) in
+      let item : (k, v) ≡ (0 + length xs, get_or l (length xs) v) = turn.1 ∙ get_or-enumerate_from 0 l (length xs) (k, v) inside in
+      let number : k ≡ length xs = ap (λ (p : ℕ × ℕ). p.0) item ∙ zero-add (length xs) in
+      let letter : v ≡ get_or l (length xs) 0 = ap (λ (p : ℕ × ℕ). p.1) item ∙ get_or_default_zero l (length xs) v inside in
+      let more : length (xs ++ (k, v) ∷ []) ≡ length xs + 1 = length-append xs ((k, v) ∷ []) in (
+        omega (arith, inside, number, w.room, w.holds.others.size),
+        record {
+          yields = w.yields;
+          room = w.room;
+          holds = rw (more, number) (holds_more (λ t. get_or l t 0) before (length xs) v now w.holds (omega (arith, inside, w.room)) letter);
+        },
+      )
 
-  -- No byte is left.
-  pub all_stored : length s ≤ at → now ≡ written (letters_in s) before
-  all_stored h = written_whole (pending_none (rw (drop_of_length-le s h) at w.rest) (omega (arith, w.room)))
+  -- or none is left.
+  pub all_stored : Storing steps l before now start (length xs) → Yields steps start xs it → steps it None it' → now ≡ written l before
+  all_stored w past step =
+      let all : length l ≡ length xs = sym ((YieldsList-end w.yields xs it past None it' refl step).1 ∙ length-enumerate_from 0 l) in
+      written_places l (length xs) before now all (omega (arith, all, w.room)) w.holds.others w.holds.value

@@ -1,5 +1,5 @@
 // The FASTA reader: an input of one record, checked in the order of document 01's table, gives its letters and where its name ends.
-// Contracts cite `specs/Reader.antt`. Nothing is assumed.
+// Contracts cite `specs/Reader.antt` and `specs/Accepted.antt`. Nothing is assumed.
 #![tactic(auto)]
 
 mod letters;
@@ -22,7 +22,7 @@ pub struct Named {
     pub end: usize,
 }
 
-// The refusal of an input of fitting size for a fault in it.
+// The refusal of an input of fitting size for a fault in it. No `From`, which has no `requires`: the position must fit 32 bits.
 fn refusal_for(fault: Fault) -> Refused
     requires { fault.position ≤ max_input }
     ensures reason { result.reason ≡ fault.reason }
@@ -59,7 +59,7 @@ fn only_record(input: &[u8]) -> Result<Record, Fault>
 
 // Reads the letters of a FASTA input, as capitals, into `letters`, and tells where its name ends. A refusal changes nothing: one pass checks, and
 // another stores the letters.
-#[tactic(auto, using(crate::proofs::Laws::Positions::fault_within))]
+#[tactic(auto, using(crate::proofs::Laws::Positions::fault_within, crate::proofs::Laws::Accepted::record_room))]
 pub fn read_named(input: &[u8], letters: &mut [u8]) -> Result<Named, Refused>
     ensures answer { answer_of result ≡ reader_answer input.now (length letters.old) }
     ensures content { letters.new ≡ content_after (answer_of result) (letters_of input.now) letters.old }

@@ -1,8 +1,9 @@
 -- Where the first line of a part of the input ends.
 -- Assumes nothing.
-use Rattle.std.proofs.Common.{◌≡◌, refl, Bool, true, false, cond, List, [], ◌∷◌, ℕ, suc, ◌+◌, ◌≤◌, length, drop, nat_eq, Option, Some, None, ◌∙◌, arith, length-drop}
+use Rattle.std.proofs.Common.{◌≡◌, refl, Bool, true, false, cond, sym, take, ◌-◌, List, [], ◌∷◌, ℕ, suc, ◌+◌, ◌≤◌, length, drop, nat_eq, Option, Some, None, ◌∙◌, arith, length-drop}
 use Rattle.std.proofs.Math.Decide.{dec_le}
 use Rattle.std.proofs.Common.{drop_of_length-le}
+use Rattle.std.proofs.lemmas.List.{take_rest}
 use Rattle.std.specs.List.{position, position_from}
 use Rattle.std.proofs.lemmas.Iterator.Adapters.{position_from-zero}
 use Rattle.fasta_record.specs.Bytes.{line_end, starts_with}
@@ -37,6 +38,17 @@ pub line_reached : (p : ℕ) (s : List ℕ) {o : Option ℕ} → o ≡ position 
 line_reached p s e =
     let q : p + 0 ≡ p = omega arith in
     rw (e ∙ position_from-zero ends s) (rw q at (line_from p 0 s))
+
+-- What is left of the input from p on is s: the first LF in it ends the line,
+pub line_found : (x s : List ℕ) (p k : ℕ) {o : Option ℕ} → s ≡ take (length x - p) (drop p x) → o ≡ position ends s → o ≡ Some k → p + k + 1 ≡ after_line p (drop p x)
+line_found x s p k r e f = sym (rw (r ∙ take_rest x p) at (line_reached p s (sym f ∙ e)))
+
+-- or the input ends with it.
+pub line_unfound : (x s : List ℕ) (p : ℕ) {o : Option ℕ} → s ≡ take (length x - p) (drop p x) → o ≡ position ends s → o ≡ None → p ≤ length x →
+    length x ≡ after_line p (drop p x)
+line_unfound x s p r e f h =
+    let q : s ≡ drop p x = r ∙ take_rest x p in
+    omega (arith, rw q at (line_reached p s (sym f ∙ e)), length-drop p x)
 
 line_most : (p : ℕ) (s : List ℕ) → after_line p s ≤ p + length s
 line_most p [] = omega arith

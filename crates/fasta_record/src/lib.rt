@@ -14,7 +14,7 @@ use crate::lines::{Lines, after_line, lines_from};
 use crate::name::name_from;
 use answer::Reason;
 
-// Why a record is refused, and at which position of the input.
+// Why a record is refused, and at which position of the input. No `Refused`: an input of any length is read here, so positions have 64 bits.
 #[derive(Clone, Copy, Debug, PartialEq, Eq)]
 pub struct Fault {
     pub reason: Reason,

@@ -7,7 +7,7 @@ ghost use Rattle.fasta_record.specs.Lines.{after_line, lines_from};
 use crate::Fault;
 use crate::bytes::{Kind, LINE_END, stands_at};
 use answer::Reason;
-use checks::limits::max_letters;
+use checks::limits::MAX_LETTERS;
 
 // What the sequence lines of a record stop at.
 #[derive(Clone, Copy, Debug, PartialEq, Eq)]
@@ -34,6 +34,7 @@ fn line_end_in(rest: &[u8]) -> Option<usize>
 }
 
 // Where the line ends whose bytes from `from` on are left: past its LF, or the input's end; `from` where nothing is left.
+#[tactic(auto, using(crate::proofs::Reading::line_found))]
 pub fn after_line(input: &[u8], from: usize) -> usize
     ensures result { result ≡ after_line from (drop from input.now) }
 {
@@ -52,6 +53,7 @@ pub(crate) fn lines_from(rest: &[u8], from: usize) -> Result<Lines, Fault>
     ensures result { result ≡ lines_from from false 0 rest.now }
 {
     let mut inside = false;
+    // Counted by hand: it is part of what is told, and tested on the way.
     let mut count = 0;
     for (index, &byte) in rest.iter().enumerate() {
         let position = from + index;
@@ -61,7 +63,7 @@ pub(crate) fn lines_from(rest: &[u8], from: usize) -> Result<Lines, Fault>
         });
         match Kind::from(byte) {
             Kind::Letter => {
-                if count as usize >= max_letters() {
+                if count as usize >= MAX_LETTERS {
                     return Err(Fault {
                         reason: Reason::TooManyLetters,
                         position,

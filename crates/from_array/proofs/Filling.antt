@@ -1,86 +1,107 @@
 -- A buffer filled position by position: at its turn a position hands a value to each position whose innermost span is its own.
 -- Assumes nothing.
-use mathlib.Core.Path.{◌≡◌, sym, subst, ◌∙◌}
+use mathlib.Core.Path.{◌≡◌, sym, ◌∙◌}
 use mathlib.Core.List.{List}
-use Prim.Native.Nat.{ℕ, ◌+◌, ◌<◌, ◌≤◌}
+use Prim.Native.Nat.{ℕ, ◌+◌, ◌-◌, ◌<◌, ◌≤◌}
 use native.Mathlib.Omega.{arith}
-use native.Mathlib.Decide.{dec_lt, ℕ_discrete}
-use lib.ListN.{length, get_or}
-use Rattle.words.specs.ValidArray.{Valid}
-use Rattle.words.specs.Laws.ValidSpans.{Innermost, Unheld, InnermostCase, held, unheld, innermost_case, innermost_is, end_inside}
-use Rattle.answer.specs.Content.{Kept, From, Stored, Holds}
-use Rattle.answer.specs.ContentLaws.{kept_all, kept_then, kept_where}
+use lib.ListN.{length, get_or, set}
+use Rattle.words.specs.Tabulate.{tabulate}
+use Rattle.words.specs.ValidArray.{Valid, holding, letter_for}
+use Rattle.words.specs.ArrayForest.{end_of, first_for}
+use Rattle.words.specs.Laws.ValidSpans.{Innermost, Unheld, InnermostCase, held, unheld, innermost_case, innermost_is, unheld_is}
+use Rattle.words.specs.Laws.ValidText.{depth_at_most, depth_of_root, depth_of_child, letter_below}
+use Rattle.answer.specs.Content.{Stored, Holds}
+use Rattle.answer.specs.ContentLaws.{kept_all, stored}
 use Rattle.from_array.specs.Marked.{Marked}
+use Rattle.from_array.proofs.Values.{tabulated}
 
 -- The positions below i had their turn and hold g; of the others those hold f that no earlier span holds, or whose innermost span is that
 -- of a position below i.
-pub record Filling (f g : ℕ → ℕ) (a : List ℕ) (i : ℕ) (before now : List ℕ) : Type 0 where
+pub record Filling (f g : ℕ → ℕ) (a : List ℕ) (i : ℕ) (now : List ℕ) : Type 0 where
   pub done : (j : ℕ) → j < i → get_or now j 0 ≡ g j
   pub root : (j : ℕ) → i ≤ j → j < length a → Unheld a j j → get_or now j 0 ≡ f j
   pub child : (j m : ℕ) → i ≤ j → j < length a → m < i → Innermost a j j m → get_or now j 0 ≡ f j
-  pub others : Kept (From (length a)) before now
+  pub size : length now ≡ length a
 
-module _ (f g : ℕ → ℕ) (a before : List ℕ) (valid : Valid a) where
-  -- Before the first turn: every position holds what one that no earlier span holds is to have.
-  pub filling_starts : (r : ℕ → ℕ) → ((j : ℕ) → j < length a → get_or before j 0 ≡ r j) → ((j : ℕ) → Unheld a j j → r j ≡ f j)
-      → Filling f g a 0 before before
-  filling_starts r h e =
+module _ (f g : ℕ → ℕ) (a : List ℕ) where
+  -- Before the first turn every position holds what one that no earlier span holds is to have.
+  filling_starts : (now : List ℕ) → length now ≡ length a → ((j : ℕ) → j < length a → Unheld a j j → get_or now j 0 ≡ f j) → Filling f g a 0 now
+  filling_starts now size h =
       record {
         done = λ j p. absurd (omega arith);
-        root = λ j p q u. h j q ∙ e j u;
+        root = λ j p q u. h j q u;
         child = λ j m p q n. absurd (omega arith);
-        others = kept_all before;
+        size = size;
       }
 
-  -- At its turn a position holds f.
-  pub filling_here : (i : ℕ) (now : List ℕ) → Filling f g a i before now → i < length a → get_or now i 0 ≡ f i
-  filling_here i now w h = go (innermost_case a i i)
-    where
-      go : InnermostCase a i i → get_or now i 0 ≡ f i
-      go (held m e n) = w.child i m (omega arith) h n.below n
-      go (unheld e u) = w.root i (omega arith) h u
+  module _ (i : ℕ) (now : List ℕ) (w : Filling f g a i now) where
+    -- At its turn a position holds f.
+    filling_here : i < length a → get_or now i 0 ≡ f i
+    filling_here h = go (innermost_case a i i)
+      where
+        go : InnermostCase a i i → get_or now i 0 ≡ f i
+        go (held m e n) = w.child i m (omega arith) h n.below n
+        go (unheld e u) = w.root i (omega arith) h u
 
-  -- One turn: i hands v to the positions whose innermost span is its own, and then holds g itself.
-  pub filling_goes_on : (i v : ℕ) (now marked after : List ℕ) → Filling f g a i before now → i < length a → Marked a i v now marked
-      → ((j : ℕ) → j < length a → Innermost a j j i → v ≡ f j) → Stored i (g i) marked after → Filling f g a (i + 1) before after
-  filling_goes_on i v now marked after w h m handed s =
-      record {
-        done = λ j p. earlier j p (dec_lt j i);
-        root = λ j p q u. keeps j (omega arith) (λ n. omega (arith, u i (omega arith), n.holds)) ∙ w.root j (omega arith) q u;
-        child = λ j k p q r n. inner j k p q r n (ℕ_discrete k i);
-        others =
-            kept_then w.others
-            (kept_then (kept_where m.others (λ j p n. omega (arith, n.holds, end_inside a valid i h)))
-            (kept_where s.others (λ j p z. omega arith)));
-      }
-    where
-      keeps : (j : ℕ) → ¬ (j ≡ i) → ¬ Innermost a j j i → get_or after j 0 ≡ get_or now j 0
-      keeps j d n = s.others.kept j d ∙ m.others.kept j n
+    -- One turn: i hands v to the positions whose innermost span is its own, and then holds g itself.
+    filling_goes_on : (v : ℕ) (marked after : List ℕ) → Marked a i v now marked → ((j : ℕ) → j < length a → Innermost a j j i → v ≡ f j)
+        → Stored i (g i) marked after → Filling f g a (i + 1) after
+    filling_goes_on v marked after m handed s =
+        record {
+          done = λ j p. grind (arith, w.done j, s.here, λ (l : j < i). s.others.kept j (λ z. omega arith) ∙ m.others.kept j (λ n. omega (arith, n.below)));
+          root = λ j p q u. s.others.kept j (λ z. omega arith) ∙ m.others.kept j (λ n. omega (arith, u i (omega arith), n.holds)) ∙ w.root j (omega arith) q u;
+          child = λ j k p q r n. grind (arith, n, w.child j k, m.inner j, handed j q, innermost_is a j j, s.others.kept j, m.others.kept j);
+          size = s.others.size ∙ m.others.size ∙ w.size;
+        }
 
-      earlier : (j : ℕ) → j < i + 1 → Dec (j < i) → get_or after j 0 ≡ g j
-      earlier j p (yes l) = keeps j (λ z. omega arith) (λ n. omega (arith, n.below)) ∙ w.done j l
-      earlier j p (no l) =
-          let e : i ≡ j = omega (arith, l, p) in
-          subst (λ (z : ℕ). get_or after z 0 ≡ g z) e s.here
+    -- After the last turn every position of the array holds g.
+    pub filling_ends : length a ≤ i → now ≡ tabulate g 0 (length a)
+    filling_ends h = tabulated g (length a) now w.size (λ j p. w.done j (omega arith))
 
-      inner : (j k : ℕ) → i + 1 ≤ j → j < length a → k < i + 1 → Innermost a j j k → Dec (k ≡ i) → get_or after j 0 ≡ f j
-      inner j k p q r n (yes e) =
-          let n' : Innermost a j j i = subst (Innermost a j j) e n in
-          s.others.kept j (λ z. omega arith) ∙ m.inner j n' ∙ handed j q n'
-      inner j k p q r n (no d) =
-          keeps j (λ z. omega arith) (λ n'. d (sym (innermost_is a j j k n) ∙ innermost_is a j j i n')) ∙
-          w.child j k (omega arith) q (omega (arith, d, r)) n
+module _ (a : List ℕ) where
+  -- FIRST starts with every position itself.
+  pub first_starts : (before now : List ℕ) → length before ≡ length a → Holds (λ j. j) (length before) before now
+      → Filling (first_for a) (first_for a) a 0 now
+  first_starts before now size w =
+      filling_starts (first_for a) (first_for a) a now (w.others.size ∙ size) (λ j p u. w.value j (omega arith) ∙ sym (unheld_is a j j u))
 
-  -- After the last turn every position of the array holds g.
-  pub filling_ends : (i : ℕ) (now : List ℕ) → Filling f g a i before now → length a ≤ i → Holds g (length a) before now
-  filling_ends i now w h =
-      record { value = λ j p. w.done j (omega arith); others = w.others }
+  pub first_goes_on : (i : ℕ) (now marked : List ℕ) → Filling (first_for a) (first_for a) a i now → i < length a → Marked a i i now marked
+      → Filling (first_for a) (first_for a) a (i + 1) marked
+  first_goes_on i now marked w h m =
+      filling_goes_on (first_for a) (first_for a) a i now w i marked marked m (λ j p n. sym (innermost_is a j j i n))
+      (record {
+        here = m.others.kept i (λ n. omega (arith, n.below)) ∙ filling_here (first_for a) (first_for a) a i now w h;
+        others = kept_all marked;
+      })
 
--- Where a position is to hold after its turn what it held before, nothing is stored.
-pub filling_keeps : (f : ℕ → ℕ) (a before : List ℕ) (valid : Valid a) (i v : ℕ) (now marked : List ℕ) → Filling f f a i before now
-    → i < length a → Marked a i v now marked → Stored i (f i) marked marked
-filling_keeps f a before valid i v now marked w h m =
-    record {
-      here = m.others.kept i (λ n. omega (arith, n.below)) ∙ filling_here f f a before valid i now w h;
-      others = kept_all marked;
-    }
+-- The number of earlier spans that hold a position.
+abbrev pub depth : List ℕ → ℕ → ℕ
+depth a j = holding a j j
+
+module _ (a : List ℕ) where
+  -- The text starts with 0 everywhere.
+  pub text_starts : (now : List ℕ) → length now ≡ length a → ((j : ℕ) → j < length a → get_or now j 0 ≡ 0) → Filling (depth a) (letter_for a) a 0 now
+  text_starts now size h = filling_starts (depth a) (letter_for a) a now size (λ j p u. h j p ∙ sym (depth_of_root a j u))
+
+  module _ (valid : Valid a) (i : ℕ) (now : List ℕ) (w : Filling (depth a) (letter_for a) a i now) (h : i < length a) where
+    -- What the place holds when the position's turn comes.
+    depth_here : get_or now i 0 ≡ depth a i
+    depth_here = filling_here (depth a) (letter_for a) a i now w h
+
+    pub depth_small : get_or now i 0 ≤ i
+    depth_small = omega (arith, depth_here, depth_at_most a i)
+
+    -- The letter that is stored.
+    letter_here : (end : ℕ) → end ≡ end_of a i → get_or now i 0 + (length a - end) ≡ letter_for a i
+    letter_here end e = omega (arith, depth_here)
+
+    pub letter_small : (end : ℕ) → end ≡ end_of a i → get_or now i 0 + (length a - end) < length a
+    letter_small end e = omega (arith, letter_here end e, letter_below a valid i h)
+
+    pub text_goes_on : (end : ℕ) (marked : List ℕ) → end ≡ end_of a i → Marked a i (get_or now i 0 + 1) now marked
+        → Filling (depth a) (letter_for a) a (i + 1) (set marked i (get_or now i 0 + (length a - end)))
+    text_goes_on end marked e m =
+        let s = stored marked i (get_or now i 0 + (length a - end)) (omega (arith, w.size, m.others.size)) in
+        filling_goes_on (depth a) (letter_for a) a i now w (get_or now i 0 + 1) marked (set marked i (get_or now i 0 + (length a - end))) m
+        (λ j p n. omega (arith, depth_here, depth_of_child a valid i j p n))
+        (record { here = s.here ∙ letter_here end e; others = s.others })

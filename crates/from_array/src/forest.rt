@@ -1,64 +1,61 @@
 // The right forest of every text that has an array (document 01's right forest). Contracts cite
-// `specs/Answers.antt`, `specs/Marked.antt` and the definitions of `words`. Nothing is assumed.
-ghost use Rattle.std.specs.Prelude.{ℕ, ◌<◌, ◌≤◌, ◌≡◌, length, get_or};
-ghost use Rattle.words.specs.ValidArray.{Valid};
+// `specs/Answers.antt` and the definitions of `words`. Nothing is assumed.
+ghost use Rattle.std.specs.Prelude.{◌<◌, ◌≤◌, ◌≡◌, length};
 ghost use Rattle.words.specs.ArrayForest.{first_for, past_for, forest_first, forest_past};
 ghost use Rattle.answer.specs.Limits.{max_length};
 ghost use Rattle.answer.specs.AfterCall.{content_after};
 ghost use Rattle.from_array.specs.Answers.{right_forest_answer};
 ghost use Rattle.answer.specs.Content.{Holds};
-ghost use Rattle.from_array.specs.Marked.{ArrayRoom};
 
-use super::mark::mark;
+use super::spans::Spans;
 use answer::Answer;
 
 // Every position has itself.
-// The number of places stands beside the buffer: a caller of C may lend a longer one.
-fn write_own(first: &mut [u32], n: usize)
-    requires n_short { n ≤ max_length }
-    requires n_in_bounds { n ≤ length first.old }
-    ensures content { Holds (λ j. j) n first.old first.new }
+fn write_own(first: &mut [u32])
+    requires { length first.old ≤ max_length }
+    ensures content { Holds (λ j. j) (length first.old) first.old first.new }
 {
-    for k in 0..n {
-        first[k] = k as u32;
+    for (k, place) in first.iter_mut().enumerate() {
+        *place = k as u32;
     }
 }
 
-// FIRST: each position has the one whose span is its innermost, or itself.
-fn write_first(array: &[u32], first: &mut [u32])
-    requires { ArrayRoom array.now first.old }
-    ensures content { Holds (first_for array.now) (length array.now) first.old first.new }
-{
-    write_own(first, array.len());
-    for i in 0..array.len() {
-        mark(array, first, i, i as u32);
+impl Spans<'_> {
+    // FIRST: each position has the one whose span is its innermost, or itself.
+    #[tactic(auto, using(crate::proofs::Filling::first_starts, crate::proofs::Filling::filling_ends))]
+    fn write_first(self, first: &mut [u32])
+        requires places { length first.old ≡ length self.array.now }
+        ensures content { first.new ≡ forest_first self.entry.array.now }
+    {
+        write_own(first);
+        for i in 0..self.array.len() {
+            self.mark(first, i, i as u32);
+        }
     }
-}
 
-// What PAST has at `j`: the end of its span, or itself where FIRST has itself.
-fn past_at(array: &[u32], first: u32, j: usize) -> u32
-    requires valid { Valid array.now }
-    requires short { length array.now ≤ max_length }
-    requires j_in_bounds { j < length array.now }
-    requires first_is { first ≡ first_for array.now j }
-    ensures result { result ≡ past_for array.now j }
-{
-    let own = j as u32;
-    if first == own {
-        return own;
+    // What PAST has at `j`: the end of its span, or itself where FIRST has itself.
+    fn past_at(self, first: u32, j: usize) -> u32
+        requires j_in_bounds { j < length self.array.now }
+        requires first_is { first ≡ first_for self.array.now j }
+        ensures result { result ≡ past_for self.entry.array.now j }
+    {
+        let own = j as u32;
+        if first == own {
+            return own;
+        }
+        self.end_of(j) as u32
     }
-    (j + array[j] as usize) as u32
-}
 
-// PAST, from FIRST.
-fn write_past(array: &[u32], first: &[u32], past: &mut [u32])
-    requires array_room { ArrayRoom array.now past.old }
-    requires first_long { length array.now ≤ length first.now }
-    requires first_holds { (j : ℕ) → j < length array.now → get_or first.now j 0 ≡ first_for array.now j }
-    ensures content { Holds (past_for array.now) (length array.now) past.old past.new }
-{
-    for j in 0..array.len() {
-        past[j] = past_at(array, first[j], j);
+    // PAST, from FIRST.
+    #[tactic(auto, using(crate::proofs::Values::first_places, crate::proofs::Values::first_at, crate::proofs::Values::past_ends))]
+    fn write_past(self, first: &[u32], past: &mut [u32])
+        requires first_is { first.now ≡ forest_first self.array.now }
+        requires places { length past.old ≡ length self.array.now }
+        ensures content { past.new ≡ forest_past self.entry.array.now }
+    {
+        for (j, place) in past.iter_mut().enumerate() {
+            *place = self.past_at(first[j], j);
+        }
     }
 }
 
@@ -74,8 +71,10 @@ pub fn right_forest(array: &[u32], first: &mut [u32], past: &mut [u32]) -> Answe
     }
     let answer = valid_array::check(array);
     if let Ok(_) = answer.outcome {
-        write_first(array, first);
-        write_past(array, first, past);
+        let spans = Spans { array };
+        let first = &mut first[..array.len()];
+        spans.write_first(first);
+        spans.write_past(first, &mut past[..array.len()]);
     }
     answer
 }

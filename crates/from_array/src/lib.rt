@@ -6,7 +6,7 @@
 #![tactic(auto)]
 
 mod forest;
-mod mark;
+mod spans;
 mod text;
 
 pub use forest::right_forest;

@@ -1,37 +1,28 @@
-// A text that has a given array (document 01's judge). Contracts cite `specs/Answers.antt`,
-// `specs/Marked.antt` and the definitions of `words`. Nothing is assumed.
-ghost use Rattle.std.specs.Prelude.{◌≡◌, ◌<◌, ◌≤◌, length};
-ghost use Rattle.words.specs.ValidArray.{letter_for, text_for};
+// A text that has a given array (document 01's judge). Contracts cite `specs/Answers.antt` and the definitions of `words`. Nothing is assumed.
+ghost use Rattle.std.specs.Prelude.{◌≡◌, length};
+ghost use Rattle.words.specs.ValidArray.{text_for};
 ghost use Rattle.answer.specs.AfterCall.{content_after};
 ghost use Rattle.from_array.specs.Answers.{reconstruct_answer};
-ghost use Rattle.answer.specs.Content.{Holds};
-ghost use Rattle.from_array.specs.Marked.{ArrayRoom};
 
-use super::mark::mark;
+use super::spans::Spans;
 use answer::Answer;
 
-// Every position has 0: no span is counted yet.
-// The number of places stands beside the buffer: a caller of C may lend a longer one.
-fn write_zeros(text: &mut [u32], n: usize)
-    requires { n ≤ length text.old }
-    ensures content { Holds (λ j. 0) n text.old text.new }
-{
-    text[..n].fill(0);
-}
-
-// The letters. Until a position's turn comes, its place holds the number of earlier positions whose
-// span holds it, once the innermost of them had its turn.
-fn write_letters(array: &[u32], text: &mut [u32])
-    requires { ArrayRoom array.now text.old }
-    ensures content { Holds (letter_for array.now) (length array.now) text.old text.new }
-{
-    let n = array.len();
-    write_zeros(text, n);
-    for i in 0..n {
-        let depth = text[i];
-        mark(array, text, i, depth + 1);
-        let left = n - (i + array[i] as usize);
-        text[i] = depth + (left as u32);
+impl Spans<'_> {
+    // The letters. Until a position's turn comes, its place holds the number of earlier positions whose
+    // span holds it, once the innermost of them had its turn.
+    #[tactic(auto, using(crate::proofs::Filling::depth_small, crate::proofs::Filling::letter_small))]
+    fn write_letters(self, text: &mut [u32])
+        requires places { length text.old ≡ length self.array.now }
+        ensures content { text.new ≡ text_for self.entry.array.now }
+    {
+        text.fill(0);
+        let n = self.array.len();
+        for i in 0..n {
+            let depth = text[i];
+            self.mark(text, i, depth + 1);
+            let left = n - self.end_of(i);
+            text[i] = depth + (left as u32);
+        }
     }
 }
 
@@ -45,7 +36,7 @@ pub fn reconstruct(array: &[u32], text: &mut [u32]) -> Answer
     }
     let answer = valid_array::check(array);
     if let Ok(_) = answer.outcome {
-        write_letters(array, text);
+        Spans { array }.write_letters(&mut text[..array.len()]);
     }
     answer
 }

@@ -3,7 +3,7 @@
 // call is proved too: each `expect` asks for it. Nothing is assumed.
 #![tactic(auto)]
 
-ghost use Rattle.std.specs.Prelude.{◌≡◌, true, ◌↔◌, length};
+ghost use Rattle.std.specs.Prelude.{◌≡◌, length};
 ghost use Rattle.answer.specs.Answers.{number, value};
 ghost use Rattle.from_array.specs.Answers.{reconstruct_answer, right_forest_answer};
 ghost use Rattle.from_array.specs.Theorems.{text_after, right_first_after, right_past_after};
@@ -24,6 +24,7 @@ fn expect_text(array: &[u32], text: &mut [u32], said: u32, with: u32, wanted: &[
 }
 
 // `right_forest` answers with the number and value, and leaves what is wanted in FIRST and PAST.
+// What is said is a number, as the documents have it.
 fn expect_forest(
     array: &[u32],
     first: &mut [u32],

@@ -86,12 +86,12 @@ module _ (first before out : List ℕ) (e last t : ℕ) (d : Descends first befo
       }
 
 -- A word starts before it ends.
-start_at_most : (before table : List ℕ) (n : ℕ) → Linkable before table n → (i : ℕ) → i < n → start_in table i ≤ i
-start_at_most before table n k i l = omega (arith, k.positive i l, k.fits i l)
+start_at_most : (before table : List ℕ) → Linkable before table → (i : ℕ) → i < length before → start_in table i ≤ i
+start_at_most before table k i l = let q : i < length table = omega (arith, k.same) in omega (arith, k.positive i q, k.fits i q)
 
-module _ (before table first past : List ℕ) (n e last : ℕ) (k : Linkable before table n) (w : Crossed before table first past e last) (l : e < n) where
+module _ (before table first past : List ℕ) (e last : ℕ) (k : Linkable before table) (w : Crossed before table first past e last) (l : e < length before) where
   in_buffer : e < length first
-  in_buffer = omega (arith, w.in_first.size, k.in_first)
+  in_buffer = omega (arith, w.in_first.size)
 
   -- FIRST with the start of the word that ends before e.
   link_at : (i : ℕ) → i < e → get_or (set first e last) (suc i) 0 ≡ start_in table i
@@ -110,8 +110,8 @@ module _ (before table first past : List ℕ) (n e last : ℕ) (k : Linkable bef
     reading_linked : Linked (start_in table) (set first e last) e (e + 1 - h)
     reading_linked =
         record {
-          below = λ i p. start_at_most before table n k i (omega arith);
-          nested = λ i t p. k.nested i t (omega arith);
+          below = λ i p. start_at_most before table k i (omega arith);
+          nested = λ i t p. k.nested i t (omega (arith, k.same));
           link = link_at;
           here = start_here;
         }
@@ -123,7 +123,7 @@ module _ (before table first past : List ℕ) (n e last : ℕ) (k : Linkable bef
     crossed_step past' f =
         let c : Closes (start_in table) past past' e = f (start_in table) reading_linked in
         record {
-          small = omega (arith, start_here, start_at_most before table n k e l);
+          small = omega (arith, start_here, start_at_most before table k e l);
           link = λ i p. link_at i (omega arith);
           here =
               λ i p.

@@ -30,14 +30,13 @@ pub record Closes (start : ℕ → ℕ) (before after : List ℕ) (e : ℕ) : Ty
   pub done : (j d : ℕ) → d < e → FirstCrossing start j d → get_or after j 0 ≡ get_or before j 0
   pub others : Kept (From (suc e)) before after
 
--- PAST holds a suffix table of n entries, whose words are nested, and both buffers have room for n numbers.
-pub record Linkable (first table : List ℕ) (n : ℕ) : Type 0 where
-  pub short : n ≤ max_length
-  pub in_first : n ≤ length first
-  pub in_past : n ≤ length table
-  pub positive : (t : ℕ) → t < n → 0 < get_or table t 0
-  pub fits : (t : ℕ) → t < n → get_or table t 0 ≤ suc t
-  pub nested : Nested (start_in table) n
+-- PAST holds a suffix table, whose words are nested, and FIRST is as long.
+pub record Linkable (first table : List ℕ) : Type 0 where
+  pub short : length table ≤ max_length
+  pub same : length first ≡ length table
+  pub positive : (t : ℕ) → t < length table → 0 < get_or table t 0
+  pub fits : (t : ℕ) → t < length table → get_or table t 0 ≤ suc t
+  pub nested : Nested (start_in table) (length table)
 
 -- The first e words have been read from the table: FIRST has their starts, one place further on, but for the last, which is `last`; PAST
 -- has the ends at the positions that they cross. The rest of both buffers is as it was.

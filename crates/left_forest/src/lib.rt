@@ -22,7 +22,7 @@ fn close(first: &[u32], past: &mut [u32], e: usize, last: usize)
     ensures content { (start : ℕ → ℕ) → Linked start first.now e last → Closes start past.old past.new e }
 {
     let mut t = e;
-    // A while loop: the next position is the link that is read there.
+    // A while loop: the next position is the link that is read there. `successors` is no plainer, with a closure for the step and one for the end.
     while last < t {
         past[t] = (e + 1) as u32;
         t = first[t] as usize;
@@ -31,13 +31,12 @@ fn close(first: &[u32], past: &mut [u32], e: usize, last: usize)
 
 // Reads the suffix table in PAST from left to right. FIRST gets the starts of its words, each one place
 // further on, and PAST the ends at the positions that a word crosses. Returns the start of the last word.
-// The number of letters stands beside the buffers: a caller of C may lend longer ones.
-fn link(first: &mut [u32], past: &mut [u32], n: usize) -> usize
-    requires { Linkable first.old past.old n }
-    ensures content { Crossed first.old past.old first.new past.new n result }
+fn link(first: &mut [u32], past: &mut [u32]) -> usize
+    requires { Linkable first.old past.old }
+    ensures content { Crossed first.old past.old first.new past.new (length first.old) result }
 {
     let mut last: usize = 0;
-    for e in 0..n {
+    for e in 0..first.len() {
         first[e] = last as u32;
         last = e + 1 - past[e] as usize;
         close(first, past, e, last);
@@ -83,16 +82,18 @@ pub fn left_forest_ranked(
     if let Err(refusal) = checks::ranked_forest(n, order, table.len(), first.len(), past.len()) {
         return Answer::from(refusal);
     }
+    let first = &mut first[..n];
+    let past = &mut past[..n];
     if let Err(refusal) = suffix_table_ranked(text, order, table, past).outcome {
         return Answer::from(refusal);
     }
-    let last = link(first, past, n);
+    let last = link(first, past);
     mark_roots(first, past, last);
     answer::accept(n as u32)
 }
 
 // Writes the left forest of `text`, in the default order, into `first` and `past`; the count is the
-// number of letters.
+// number of letters. A call of its own: C calls it by its name.
 pub fn left_forest(text: &[u8], first: &mut [u32], past: &mut [u32]) -> Answer
     ensures answer { result ≡ left_forest_answer text.now (length first.old) (length past.old) }
     ensures starts { first.new ≡ content_after result (default_left_first text.now) first.old }

@@ -2,12 +2,13 @@
 -- Assumes nothing.
 use mathlib.Core.Path.{◌≡◌, sym, ◌∙◌}
 use mathlib.Core.List.{List}
-use Prim.Native.Nat.{ℕ, ◌<◌, ◌-◌}
+use Prim.Native.Nat.{ℕ, ◌<◌, ◌≤◌, ◌-◌}
 use native.Mathlib.Omega.{arith}
 use lib.ListN.{length, get_or}
 use Rattle.std.proofs.lemmas.List.{ext_get_or}
 use Rattle.std.proofs.Common.{eq-eqb}
 use borrow.Author.Tests.{ne_eqb}
+use Rattle.answer.specs.Content.{Holds}
 use Rattle.answer.specs.Limits.{table_length, ranked_order}
 use Rattle.letters.specs.Ranks.{own_numbers}
 use Rattle.letters.specs.RankLaws.{rank_table_length, rank_table_entry, own_numbers_length, own_numbers_entry, turned_table_length, turned_entry}
@@ -35,8 +36,8 @@ module _ (order : ℕ) (table : List ℕ) where
   by_length ranks e d r = r ∙ own (λ a. sym (simp (eq-eqb order ranked_order e, ne_eqb (length table) table_length d)))
 
 -- Where each entry is one of the table turned round, they are the table turned round.
-pub turned_made : (table keys : List ℕ) → length keys ≡ table_length → ((a : ℕ) → a < table_length → get_or keys a 0 ≡ 255 - get_or table a 0) →
+pub turned_made : (table keys : List ℕ) (n : ℕ) → Holds (λ b. 255 - get_or table b 0) n table keys → table_length ≤ n → length keys ≡ table_length →
     keys ≡ turned_table table
-turned_made table keys l h =
+turned_made table keys n h whole l =
     ext_get_or 0 keys (turned_table table) (l ∙ sym (turned_table_length table))
-    (λ a q. let p : a < table_length = omega (arith, l) in h a p ∙ sym (turned_entry table a p))
+    (λ a q. let p : a < table_length = omega (arith, l) in h.value a (omega arith) ∙ sym (turned_entry table a p))

@@ -1,16 +1,17 @@
 // Letters of both widths: how two of them compare in an order, bytes by the rank that a table gives them.
 //
-// Contracts cite `specs/Compared.antt`, `specs/Ranks.antt`, `specs/Keys.antt`, `specs/BuiltIn.antt`, `specs/Default.antt` and the orders of `words`.
+// Contracts cite `specs/Compared.antt`, `specs/Keyed.antt`, `specs/Ranks.antt`, `specs/Keys.antt`, `specs/BuiltIn.antt`, `specs/Default.antt` and the orders
+// of `words`.
 // Nothing is assumed.
 #![tactic(auto)]
 
 pub mod built_in;
 
-ghost use Rattle.std.specs.Prelude.{◌≡◌, ◌<◌, length, get_or};
+ghost use Rattle.std.specs.Prelude.{◌≡◌, length};
 ghost use Rattle.words.specs.Decided.{decided_order};
 ghost use Rattle.letters.specs.Compared.{comparison_of, order_number, numbered_order};
 ghost use Rattle.letters.specs.Ranks.{rank_by, direction_of, rank_differs};
-ghost use Rattle.letters.specs.Keyed.{row, letters_differ};
+ghost use Rattle.letters.specs.Keyed.{row};
 ghost use Rattle.letters.specs.Keys.{rank_table, turned_table, key_table};
 
 use checks::limits;
@@ -40,7 +41,7 @@ impl Keyed<'_> {
 }
 
 // The order of a number: ranks, order 2, are compared as in order 0.
-// The order is a number, as C gives it.
+// The order is a number, as C gives it; no `From`, since not every number is an order.
 pub fn direction(order: u32) -> Order
     ensures direction { result ≡ numbered_order (direction_of order) }
 {
@@ -80,7 +81,8 @@ pub fn compare_ranks(table: &[u8; 256], a: u8, b: u8, order: Order) -> Ordering
 }
 
 // The ranks of all bytes in an order: those of the table in order 2, if it has 256 entries, else their own numbers.
-// The order is a number, as C gives it.
+// Order and table stand side by side, as C gives them; behind this one table stands for both.
+#[tactic(auto, using(crate::proofs::Tables::by_table, crate::proofs::Tables::by_number, crate::proofs::Tables::by_length))]
 pub fn rank_table(order: u32, table: &[u8]) -> [u8; 256]
     ensures content { result ≡ rank_table order table.now }
 {
@@ -93,6 +95,7 @@ pub fn rank_table(order: u32, table: &[u8]) -> [u8; 256]
 }
 
 // A table turned round, for the falling order.
+#[tactic(auto, using(crate::proofs::Tables::turned_made))]
 pub fn turned_table(table: &[u8; 256]) -> [u8; 256]
     ensures content { result ≡ turned_table table.now }
 {
@@ -105,7 +108,7 @@ pub fn turned_table(table: &[u8; 256]) -> [u8; 256]
 }
 
 // The keys of an order: the smaller key is the smaller letter.
-// The order is a number, as C gives it.
+// Order and table stand side by side, as C gives them; behind this one table stands for both.
 pub fn key_table(order: u32, table: &[u8]) -> [u8; 256]
     ensures content { result ≡ key_table order table.now }
 {

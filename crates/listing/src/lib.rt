@@ -2,7 +2,7 @@
 // Contracts cite `specs/Listing.antt`. Nothing is assumed.
 #![tactic(auto)]
 
-ghost use Rattle.std.specs.Prelude.{◌≡◌, ◌≤◌, ◌<◌, length};
+ghost use Rattle.std.specs.Prelude.{◌≤◌, ◌<◌, length};
 ghost use Rattle.answer.specs.Limits.{max_letters};
 ghost use Rattle.answer.specs.Content.{Written};
 ghost use Rattle.array.specs.Calls.{run_list};
@@ -43,7 +43,7 @@ fn write_record(name: &[u8], letters: &[u8], out: &mut [u8]) -> usize
 }
 
 // Writes all that is printed for the input at the start of `out`, and returns how long it is. Changes nothing past it. The reader's outcome
-// is taken apart before any run is sought.
+// is taken apart before any run is sought, by `let .. else`, which document 01 names.
 pub fn list(input: &[u8], out: &mut [u8; MAX_LISTING]) -> usize
     ensures content { Written out.old out.new 0 result (listing_of input.now) }
 {

@@ -92,6 +92,7 @@ impl fmt::Display for Failure {
             Failure::Input(error) => ("standard input", error),
             Failure::Output(error) => ("standard output", error),
         };
+        // No heap: an array, whose zeros behind the reason are cut off.
         let mut reason = [0u8; MAX_REASON];
         let mut rest: &mut [u8] = &mut reason;
         let _ = write!(rest, "{error}");

@@ -1,7 +1,7 @@
 // The calls that use a table of a store, a group's own or a built-in one: each is the ranked call in order 2 by that table, with no order asked
 // for. Refused by document 02's checks 21 and 22, then by those of the ranked call, of which 3 and 16 never fail here.
 //
-// Each call takes the look-up apart by itself: of buffers that a closure borrows, for one function that does it for all, nothing is known
+// Each call takes the look-up apart by itself: one function over a closure was tried, and of buffers that a closure borrows nothing is known
 // after it was called.
 //
 // Contracts cite the files `Store` and `Calls` of `table_store`; the clause `step` says the same as a step of a series (`Series`). Nothing is

@@ -101,6 +101,7 @@ impl TableStore {
     }
 
     // Replaces a group's own table, number 0 to 2. Refused by document 02's checks 21 and 16; the count is 256.
+    // Group and number, and no `TableName`: no call can ask for a built-in table to be replaced.
     #[tactic(auto, using(crate::proofs::StoreWrites::table_replaced))]
     pub fn write(&mut self, group: u32, number: u32, table: &[u8]) -> Answer
         ensures answer { result ≡ write_answer group number (length table.now) }
@@ -131,6 +132,7 @@ impl TableStore {
         ensures content { out.new ≡ read_after (lookup self.now name) out.old }
         ensures step { result_with result (out.new ∷ []) ≡ result_of self.now (use_table name (read out.old)) }
     {
+        // A match and no `?`: an answer is a struct.
         let table = match self.look_up(name) {
             Ok(table) => table,
             Err(refusal) => return Answer::from(refusal),

@@ -1,23 +1,17 @@
--- The buffer filled from the last position on, and what is left to restore at the end.
+-- The rows of a whole text, and its array once they are restored.
 -- Assumes nothing.
-use Rattle.std.specs.Prelude.{◌≡◌, List, ℕ, ◌<◌, ◌≤◌, length, get_or}
-use Rattle.answer.specs.Content.{Kept, From}
-use Rattle.array.specs.Core.Rows.{entry_of, RowsOf}
+use Rattle.std.specs.Prelude.{◌≡◌, List, ℕ, length}
+use Rattle.words.specs.Compute.LyndonArray.{array_of}
+use Rattle.words.specs.Decided.{decided_order}
+use Rattle.array.specs.Core.Rows.{RowsOf}
 
--- The positions from i on have been joined.
-pub record Filled (order : ℕ) (x before after : List ℕ) (i : ℕ) : Type 0 where
-  pub rows : RowsOf order x after i
-  pub others : Kept (From (length x)) before after
-
--- The buffer holds the rows of some text of n letters.
-pub record HasRows (buf : List ℕ) (n : ℕ) : Type 0 where
+-- The buffer holds the rows of some text of as many letters as it has places.
+pub record HasRows (buf : List ℕ) : Type 0 where
   pub order : ℕ
   pub text : List ℕ
-  pub size : length text ≡ n
-  pub inside : n ≤ length buf
+  pub size : length text ≡ length buf
   pub rows : RowsOf order text buf 0
 
--- All entries are final, for every text whose rows the buffer held.
-pub record AllRestored (before after : List ℕ) (n : ℕ) : Type 0 where
-  pub others : Kept (From n) before after
-  pub final : (order : ℕ) (x : List ℕ) → length x ≡ n → RowsOf order x before 0 → (t : ℕ) → t < n → get_or after t 0 ≡ entry_of order x t
+-- All entries are final: the buffer holds the array of every such text whose rows it held.
+pub record AllRestored (before after : List ℕ) : Type 0 where
+  pub final : (order : ℕ) (x : List ℕ) → length x ≡ length before → RowsOf order x before 0 → after ≡ array_of (decided_order order) x

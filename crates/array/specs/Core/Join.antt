@@ -1,7 +1,7 @@
 -- What the join loop asks for and hands back.
 -- Assumes nothing.
 use Rattle.std.specs.Prelude.{◌≡◌, List, ℕ, ◌+◌, ◌<◌, ◌≤◌, length}
-use Rattle.words.specs.Laws.Position.{Agree, SpanLess}
+use Rattle.words.specs.Laws.Position.{Agree}
 use Rattle.words.specs.Laws.SpanLyndon.{letters}
 use Rattle.words.specs.Laws.SuffixOrder.{NextSmaller}
 use Rattle.words.specs.Letters.{order_of}
@@ -9,10 +9,8 @@ use Rattle.answer.specs.Limits.{max_length}
 use Rattle.answer.specs.Content.{Kept}
 use Rattle.std.specs.declared.cmp.Ordering.{Ordering}
 use Rattle.std.specs.declared.cmp.Ordering.TheVariants.{Less, Equal, Greater}
-use Rattle.array.specs.declared.factor.Factor.{Factor}
 use Rattle.array.specs.declared.joined.Joined.{Joined}
 use Rattle.array.specs.Core.Joining.{Joining}
-use Rattle.array.specs.Core.Place.{factor_at}
 use Rattle.array.specs.Core.Rows.{entry_of, RowsOf}
 
 -- The word from i to j, and the factor of length l at j, are equal.
@@ -31,24 +29,6 @@ Stopped order x i j k Greater =
 pub record Agreeing (x : List ℕ) (i j k : ℕ) : Type 0 where
   pub agree : Agree (letters 0 x) i j k
   pub within : j + k ≤ length x
-
--- What the comparison of the word from i to j with the factor at j says, and on how many letters k they agree.
-abbrev pub Compared : ℕ → List ℕ → ℕ → ℕ → ℕ → Ordering → Type 0
-Compared order x i j k Less =
-    Agreeing x i j k × SpanLess (order_of order) (letters 0 x) i j j (j + entry_of order x j)
-Compared order x i j k Equal =
-    Agreeing x i j k × NextSmaller (order_of order) (letters 0 x) (length x) i j × Stopped order x i j k Equal
-Compared order x i j k Greater =
-    Agreeing x i j k × NextSmaller (order_of order) (letters 0 x) (length x) i j × Stopped order x i j k Greater
-
--- What comparing asks for: the word from i is joined up to the factor f of the buffer, and agrees with it on k letters.
-pub record CompareReady (order : ℕ) (x buf : List ℕ) (i : ℕ) (f : Factor) (k : ℕ) : Type 0 where
-  pub fits : length x ≤ length buf
-  pub small : length x ≤ max_length
-  pub inside : f.start < length x
-  pub is_factor : f ≡ factor_at buf f.start
-  pub part : ℕ
-  pub joining : Joining (order_of order) (letters 0 x) (length x) (entry_of order x) (letters 0 buf) i f.start k part
 
 -- What joining at position i asks for: the factors after it are in the buffer.
 pub record JoinReady (order : ℕ) (x buf : List ℕ) (i : ℕ) : Type 0 where

@@ -1,7 +1,7 @@
 -- The runs that a pass of the join loop lists, position by position. Letters are in rising order, that of their keys; the order number says which
 -- runs the pass lists: under 1 not those that reach the end of the text.
 -- Assumes nothing.
-use Rattle.std.specs.Prelude.{◌≡◌, List, [], ◌∷◌, ℕ, ◌+◌, ◌<◌, ◌≤◌, ◌*◌, length}
+use Rattle.std.specs.Prelude.{◌≡◌, List, [], ◌∷◌, ℕ, ◌+◌, ◌≤◌, ◌*◌, length}
 use Rattle.words.specs.Compute.LyndonArray.{array_of}
 use Rattle.words.specs.Laws.EachRunOnce.{ListsDown}
 use Rattle.words.specs.Laws.RunMarks.{ListedEntry, end_bound}
@@ -11,9 +11,10 @@ use Rattle.words.specs.Decided.{Decided}
 use Rattle.words.specs.Runs.{Entry, numbers}
 use Rattle.answer.specs.Limits.{Sized, max_length, run_list_length, work_length}
 use Rattle.answer.specs.AfterCall.{written}
-use Rattle.answer.specs.Content.{Kept, From, Written}
+use Rattle.answer.specs.Content.{Written}
+use Rattle.answer.specs.declared.Answer.{Answer}
+use Rattle.answer.specs.Answers.{accepted_with}
 use Rattle.array.specs.Calls.{run_list, run_numbers, both_arrays}
-use Rattle.array.specs.Core.Fill.{Filled}
 use Rattle.array.specs.Core.Join.{JoinReady}
 use Rattle.array.specs.Core.Rows.{RowsOf}
 
@@ -36,30 +37,22 @@ pub record VisitReady (order : ℕ) (x buf list : List ℕ) (count i : ℕ) : Ty
 -- Position i has been visited.
 pub record Visited (order : ℕ) (x before after list list' : List ℕ) (i count r : ℕ) : Type 0 where
   pub rows : RowsOf 0 x after i
-  pub others : Kept (From (length x)) before after
+  pub size : length after ≡ length before
   pub entry : Listed order x list list' i count r
 
 -- Room, from entry `from` on, for what the positions from i on list, whatever i is.
 pub record RoomFrom (order : ℕ) (x list : List ℕ) (from : ℕ) : Type 0 where
   pub room : (i : ℕ) (rs : List Entry) → ListsDown rising (letters 0 x) (length x) (end_bound order (length x)) i rs → 3 * (from + length rs) ≤ length list
 
--- What a pass asks for: room for the array, and for what it lists.
+-- What a pass asks for: a buffer of the text's length for the array, and room for what it lists.
 pub record PassReady (order : ℕ) (x buf list : List ℕ) (from : ℕ) : Type 0 where
-  pub array_fits : length x ≤ length buf
+  pub size : length buf ≡ length x
   pub small : length x ≤ max_length
   pub entries_fit : RoomFrom order x list from
 
--- The positions from i on have been visited; their entries stand in the list from entry `from` on.
-pub record Passing (order : ℕ) (x before after list list' : List ℕ) (from i count : ℕ) : Type 0 where
-  pub filled : Filled 0 x before after i
-  pub entries : List Entry
-  pub lists : ListsDown rising (letters 0 x) (length x) (end_bound order (length x)) i entries
-  pub counted : count ≡ from + length entries
-  pub content : Written list list' (3 * from) (3 * count) (numbers entries)
-
--- One order is done: its array is written, and its runs stand in the list from entry `from` on.
-pub record OrderDone {O : Letters {0, 0} ℕ} (D : Decided O) (order : ℕ) (x before after list list' : List ℕ) (from count : ℕ) : Type 0 where
-  pub array : after ≡ written (array_of D x) before
+-- One order is done: its array stands in the buffer, and its runs in the list from entry `from` on.
+pub record OrderDone {O : Letters {0, 0} ℕ} (D : Decided O) (order : ℕ) (x after list list' : List ℕ) (from count : ℕ) : Type 0 where
+  pub array : after ≡ array_of D x
   pub entries : List Entry
   pub lists : ListsDown O (letters 0 x) (length x) (end_bound order (length x)) 0 entries
   pub counted : count ≡ from + length entries
@@ -71,9 +64,8 @@ pub record FindReady (x work list : List ℕ) : Type 0 where
   pub list_room : run_list_length (length x) ≤ length list
   pub work_room : work_length (length x) ≤ length work
 
--- Both orders are done, and the runs are sorted.
-pub record RunsFound (x before after list list' : List ℕ) (count : ℕ) : Type 0 where
-  pub counted : count ≡ length (run_list x)
-  pub few : count < length x
+-- Both orders are done, the runs are sorted, and the answer has their number.
+pub record RunsFound (x before after list list' : List ℕ) (answer : Answer) : Type 0 where
+  pub counted : answer ≡ accepted_with (length (run_list x))
   pub entries : list' ≡ written (run_numbers x) list
   pub arrays : after ≡ written (both_arrays x) before

@@ -1,8 +1,8 @@
 -- What holds of an input that the reader accepts.
 -- Assumes nothing.
-use Rattle.std.specs.Prelude.{◌≡◌, Bool, true, false, List, ℕ, ◌≤◌, ltb, length, drop, Ok}
+use Rattle.std.specs.Prelude.{◌≡◌, Bool, true, false, List, ℕ, ◌≤◌, ltb, length, take, drop, ◌-◌, Ok}
 use Rattle.std.proofs.Common.{sym, ap, subst, ◌∙◌, arith}
-use Rattle.std.proofs.lemmas.List.{length-map}
+use Rattle.std.proofs.lemmas.List.{length-map, take_rest}
 use Rattle.answer.specs.declared.Reason.TheVariants.{ShortOutput, FileTooLong}
 use Rattle.answer.specs.Answers.{accepted_after, accepted_apart, refused_if}
 use Rattle.answer.specs.Limits.{max_letters, max_input}
@@ -56,7 +56,7 @@ reader_accepted x places count {comparisons} h = go (ltb places max_letters) (lt
 
 -- Its letters fit a buffer of the length that the checks ask for.
 pub record_room : (x : List ℕ) {read : Record} → only_record x ≡ Ok read → (n start : ℕ) → max_letters ≤ n → start ≡ lines_start x 0 →
-    length (letters_in (drop start x)) ≤ n
+    length (letters_in (take (length x - start) (drop start x))) ≤ n
 record_room x {read} h n start k e =
     let a : AcceptedInput x read.lines.count read.name_end = record_input x read h in
-    rw e (omega (arith, a.letters, a.most))
+    rw (take_rest x start, e) (omega (arith, a.letters, a.most))

@@ -39,7 +39,7 @@ lower_raised b h = go (within 97 122 (b + 32)) (within_says 97 122 (b + 32))
     go false n = absurd (n (omega arith, omega arith))
 
 -- For a letter a capital is handed on.
-letter_capital : (b : ℕ) → IsLetter b → IsCapital (letter_of b)
+pub letter_capital : (b : ℕ) → IsLetter b → IsCapital (letter_of b)
 letter_capital b (inl h) = rw (capital_kept b h) h
 letter_capital b (inr h) =
     let c : IsCapital (b - 32) = (omega arith, omega arith) in
@@ -67,7 +67,7 @@ letters_capitals (b ∷ s) = go (kind_of b) (kind_says b) (letters_capitals s)
     go Unfit l rest = rest
 
 -- A letter is a letter to the sequence lines,
-letter_kind : (b : ℕ) → IsLetter b → kind_of b ≡ Letter
+pub letter_kind : (b : ℕ) → IsLetter b → kind_of b ≡ Letter
 letter_kind b l = go (kind_of b) (kind_says b)
   where
     go : (t : Kind) → KindSays b t → t ≡ Letter

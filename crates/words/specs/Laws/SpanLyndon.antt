@@ -1,7 +1,8 @@
 -- The definitions on words, for the spans of a text, are the forms by positions.
 -- Assumes nothing.
 use Rattle.std.specs.Prelude.{◌≡◌, refl, ◌⊎◌, List, [], ◌∷◌, ◌++◌, ℕ, ◌+◌, ◌-◌, ◌<◌, ◌≤◌, length, get_or, take, drop}
-use Rattle.std.proofs.Common.{sym, ap, subst, ◌∙◌, inl, inr, arith, length-append, length-drop, take-append-drop, drop_of_length-le, get_or-take, get_or-drop, drop-drop, take-take, length-take-le}
+use Rattle.std.proofs.Common.{sym, ap, subst, ◌∙◌, inl, inr, arith, length-append, length-drop, length-take-le, take-append-drop, drop_of_length-le}
+use Rattle.std.proofs.Common.{get_or-take, get_or-drop, drop-drop, take-take}
 use Rattle.std.proofs.Math.Decide.{dec_lt}
 use Rattle.std.proofs.Math.Seq.{drop-append_seam, take-length}
 use Rattle.std.proofs.lemmas.List.{drop-append-le}

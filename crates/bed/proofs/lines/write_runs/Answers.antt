@@ -5,10 +5,10 @@ use mathlib.Core.List.{List, [], ◌∷◌, ◌++◌, map}
 use Prim.Native.Nat.{ℕ, ◌+◌, ◌<◌}
 use native.Mathlib.Omega.{arith}
 use lib.ListN.{length, get_or, take}
-use Rattle.std.proofs.Common.{rules, take_all}
+use Rattle.std.proofs.Common.{rules}
 use Rattle.std.proofs.lemmas.List.{take_more, map-append}
 use Rattle.bed.specs.Bed.{bed_line, bed_lines, entry_in}
-use Rattle.bed.specs.Text.{wrote_none, wrote_then, wrote_as, wrote_size, wrote_all}
+use Rattle.bed.specs.Text.{wrote_then, wrote_as, wrote_size}
 use Rattle.bed.specs.Laws.Bed.{line_length, lines_more}
 use Rattle.bed.proofs.lines.write_runs.Goals as goal
 
@@ -19,9 +19,6 @@ next_line name runs i h =
     ap (λ (rs : List (List ℕ)). bed_lines name (map entry_in rs)) (take_more runs i [] h)
     ∙ ap (bed_lines name) (map-append entry_in (take i runs) (get_or runs i [] ∷ []))
     ∙ lines_more name (map entry_in (take i runs)) (entry_in (get_or runs i []))
-
-pub loop-start-init : goal.loop-start-init
-loop-start-init c = record { wrote = wrote_none c.new-text.result (omega arith); within = omega arith }
 
 pub write_line-requires : goal.write_line-requires
 write_line-requires c =
@@ -38,11 +35,3 @@ loop-start-preserved c =
           (sym (next_line c.args.name.now c.args.runs.now c.loop-start.start-index c.loop-start-test.true));
       within = omega (arith, line, c.write_line.ensures.wrote.written.past);
     }
-
-pub returns : goal.returns
-returns c =
-    let all : bed_lines c.args.name.now (map entry_in (take c.loop-start.start-index c.args.runs.now)) ≡ bed_lines c.args.name.now (map entry_in c.args.runs.now) =
-    ap (λ (rs : List (List ℕ)). bed_lines c.args.name.now (map entry_in rs)) (take_all c.loop-start.start-index c.args.runs.now (omega arith))
-    in
-    let written = wrote_all c.loop-start.invariant.wrote c.new-text.ensures.bytes c.new-text.ensures.none all in
-    record { content = search rules }

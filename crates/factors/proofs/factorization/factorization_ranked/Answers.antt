@@ -10,6 +10,6 @@ use Rattle.factors.proofs.factorization.factorization_ranked.Goals as goal
 pub returns : goal.returns
 returns c =
     let checked = c.in_default.ensures in
-    let listed = in_order (λ O D x. FactorsListed D x c.args.out.now c.list_in-accepted.new.out c.list_in-accepted.result) c.args.order _ c.args.table.now _ c.args.text.now
-    c.direction.ensures.direction c.rank_table-keys.ensures.content (fitting_bytes c.type_inv.text) checked.passed.2 c.list_in-accepted.ensures.content in
+    let listed = in_order (λ O D x. FactorsListed D x c.args.out.now c.list_in.new.out c.list_in.result) c.args.order _ c.args.table.now _ c.args.text.now
+    c.direction.ensures.direction c.rank_table-keys.ensures.content (fitting_bytes c.type_inv.text) checked.passed.2 c.list_in.ensures.content in
     record { answer = ap₂ accepted_after listed.counted listed.compared ∙ checked.check.answer _; content = listed.content }

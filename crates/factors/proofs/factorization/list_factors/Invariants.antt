@@ -11,7 +11,7 @@ use Rattle.factors.proofs.factorization.list_factors.Given as goal
 
 abbrev pub invariant-loop-start : goal.invariant-loop-start
 invariant-loop-start l =
-    Listing (decided_order (order_number l.order)) (row l.text) l.initial.out l.out l.count l.start (counted l.s l.comparisons)
+    Listing (decided_order (order_number l.text.order)) (row l.text.letters) l.initial.out l.out l.count l.start (counted l.s l.comparisons)
 
 abbrev pub decreases-loop-start : goal.decreases-loop-start
-decreases-loop-start l = length (row l.text) - l.start
+decreases-loop-start l = length (row l.text.letters) - l.start

@@ -10,5 +10,5 @@ use Rattle.factors.proofs.lyndon.is_lyndon.Goals as goal
 pub returns : goal.returns
 returns c =
     record {
-      answer = scanned_lyndon c.args.text.now (fitting_bytes c.type_inv.text) c.table-keys.ensures.entries c.scan-s.ensures.stretch (search rules) (omega arith);
+      answer = scanned_lyndon c.args.text.now (fitting_bytes c.type_inv.text) c.table-keys.ensures.entries c.scan.ensures.stretch (search rules) (omega arith);
     }

@@ -12,7 +12,7 @@ loop-end-init c = filling_start _ _ _ _ c.requires.text_room c.requires.start_in
 
 pub loop-end-preserved : goal.loop-end-preserved
 loop-end-preserved c =
-    let D = decided_order (order_number c.args.order) in
+    let D = decided_order (order_number c.args.text.order) in
     let w = c.loop-end.invariant in
     let lowest = c.requires.startable.lowest in
     elim c.match-compare.branch [

@@ -7,4 +7,4 @@ use Rattle.factors.proofs.Tabling.{Filling}
 use Rattle.factors.proofs.suffix_table.fill.Given as goal
 
 abbrev pub invariant-loop-end : goal.invariant-loop-end
-invariant-loop-end l = Filling (order_of (order_number l.fn.order)) (row l.text) l.initial.out l.out l.start (record { period = l.period; end = l.end })
+invariant-loop-end l = Filling (order_of (order_number l.fn.text.order)) (row l.text.letters) l.initial.out l.out l.start (record { period = l.period; end = l.end })

@@ -9,7 +9,7 @@ use Rattle.factors.proofs.Tabling.{Covering}
 use Rattle.factors.proofs.suffix_table.fill_table.Given as goal
 
 abbrev pub invariant-loop-start : goal.invariant-loop-start
-invariant-loop-start l = Covering (order_of (order_number l.order)) (row l.text) l.initial.out l.out l.start l.s
+invariant-loop-start l = Covering (order_of (order_number l.text.order)) (row l.text.letters) l.initial.out l.out l.start l.s
 
 abbrev pub decreases-loop-start : goal.decreases-loop-start
-decreases-loop-start l = length (row l.text) - l.start
+decreases-loop-start l = length (row l.text.letters) - l.start

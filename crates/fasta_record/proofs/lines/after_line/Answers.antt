@@ -1,17 +1,9 @@
-use Rattle.std.proofs.Common.{sym, ◌∙◌, arith, ap}
-use Rattle.std.proofs.lemmas.List.{take_rest}
-use Rattle.fasta_record.specs.Lines.{after_line}
-use Rattle.fasta_record.proofs.Reading.{line_reached}
+-- `fasta_record::lines::after_line` meets its contract where no LF is left.
+-- Assumes nothing.
+use Rattle.fasta_record.proofs.Reading.{line_unfound}
 use Rattle.fasta_record.proofs.lines.after_line.Goals as goal
 
-pub returns-in-Some-line_end_in : goal.returns-in-Some-line_end_in
-returns-in-Some-line_end_in c =
-    let r = c.in-Some.ensures.lookup.0.2 ∙ take_rest c.args.input.now c.args.from in
-    let e = line_reached c.args.from c.in-Some.rest.now (sym c.in-Some-line_end_in.is ∙ c.line_end_in.ensures.found) in
-    record { result = sym (rw r at e) }
-
 pub returns-in-None : goal.returns-in-None
-returns-in-None c =
-    let r = c.in-Some.ensures.lookup.0.2 ∙ take_rest c.args.input.now c.args.from in
-    let e = line_reached c.args.from c.in-Some.rest.now (sym c.in-None.is ∙ c.line_end_in.ensures.found) in
-    record { result = omega (arith, e, ap (after_line c.args.from) r, c.in-Some.ensures.lookup) }
+returns-in-None c = record {
+  result = line_unfound _ _ _ c.in-Some.ensures.lookup.0.2 c.line_end_in.ensures.found c.in-None.is c.in-Some.ensures.lookup.0.0;
+}

@@ -3,10 +3,10 @@
 use mathlib.Core.Path.{◌≡◌}
 use Rattle.letters.specs.Compared.{order_number}
 use Rattle.letters.specs.Keyed.{row}
-use Rattle.array.specs.Core.RunPass.{Passing}
+use Rattle.array.proofs.PassLaws.{Passing}
 use Rattle.array.proofs.runs.Pass.run.Given as goal
 
 abbrev pub invariant-loop-i : goal.invariant-loop-i
 invariant-loop-i g l =
     (l.found.list.ghost_name ≡ l.initial.found.list.ghost_name) ×
-    Passing (order_number l.self.order) (row l.self.text) l.initial.buf l.buf l.initial.found.list.now l.found.list.now l.initial.found.count l.i l.found.count
+    Passing (order_number l.self.order) (row l.self.text) l.buf l.initial.found.list.now l.found.list.now l.initial.found.count l.i l.found.count

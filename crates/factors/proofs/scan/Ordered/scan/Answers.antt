@@ -1,9 +1,9 @@
--- `factors::scan::scan` meets its contract: each turn of the loop is one step of the definition.
+-- `factors::scan::Ordered::scan` meets its contract: each turn of the loop is one step of the definition.
 -- Assumes nothing.
 use native.Mathlib.Omega.{arith}
 use Rattle.factors.proofs.Scanning.{scanning_start, scanning_below, scanning_same, scanning_above, scanning_end}
-use Rattle.factors.proofs.scan.scan.Goals as goal
-use Rattle.factors.proofs.scan.scan.Goals.{in-Equal, in-Greater}
+use Rattle.factors.proofs.scan.Ordered.scan.Goals as goal
+use Rattle.factors.proofs.scan.Ordered.scan.Goals.{in-Equal, in-Greater}
 
 pub loop-end-init : goal.loop-end-init
 loop-end-init c = search scanning_start
