@@ -3,7 +3,8 @@
 use Rattle.std.specs.Prelude.{cond, Bool, true, false, Option, None, Some, filter, map}
 use Rattle.std.specs.List.{enumerate_from}
 use Rattle.std.specs.Iterator.{Yields}
-use Rattle.std.proofs.Common.{inl, inr, ◌≡◌, refl, List, [], ◌∷◌, ◌++◌, ℕ, ◌+◌, ◌-◌, ◌≤◌, ◌<◌, length, get_or, set, ap, sym, ◌∙◌, arith, zero-add, length-append}
+use Rattle.std.proofs.Common.{◌≡◌, refl, ap, sym, ◌∙◌, inl, inr, List, [], ◌∷◌, ◌++◌, length, get_or, set}
+use Rattle.std.proofs.Common.{ℕ, ◌+◌, ◌-◌, ◌≤◌, ◌<◌, arith, zero-add, length-append}
 use Rattle.std.proofs.lemmas.Iterator.{YieldsList}
 use Rattle.std.proofs.lemmas.Iterator.Consumers.{YieldsList-turn, YieldsList-end}
 use Rattle.std.proofs.lemmas.List.FromFn.{length-enumerate_from, get_or-enumerate_from}
@@ -19,6 +20,7 @@ use Rattle.fasta.specs.Laws.Classes.{WithinSays, within_says, KindSays, kind_say
 use Rattle.fasta.specs.Laws.Case.{letter_capital, letter_kind}
 use Rattle.fasta.specs.Letters.{letter_before, letters_in}
 
+-- Whether a kind of byte is that of a letter, as the code asks.
 abbrev pub is_letter : Kind → Bool
 is_letter Letter = true
 is_letter LineEnd = false

@@ -1,6 +1,7 @@
 -- Where the first line of a part of the input ends.
 -- Assumes nothing.
-use Rattle.std.proofs.Common.{◌≡◌, refl, Bool, true, false, cond, sym, take, ◌-◌, List, [], ◌∷◌, ℕ, suc, ◌+◌, ◌≤◌, length, drop, nat_eq, Option, Some, None, ◌∙◌, arith, length-drop}
+use Rattle.std.proofs.Common.{◌≡◌, refl, sym, ◌∙◌, Bool, true, false, cond, Option, Some, None, List, [], ◌∷◌, length, take, drop}
+use Rattle.std.proofs.Common.{ℕ, suc, ◌+◌, ◌-◌, ◌≤◌, nat_eq, arith, length-drop}
 use Rattle.std.proofs.Math.Decide.{dec_le}
 use Rattle.std.proofs.Common.{drop_of_length-le}
 use Rattle.std.proofs.lemmas.List.{take_rest}
