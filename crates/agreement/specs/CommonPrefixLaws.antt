@@ -59,12 +59,28 @@ pub record AlikeBelow (u v : List ℕ) (k : ℕ) : Type 0 where
   pub in_right : k ≤ length v
   pub alike : (t : ℕ) → t < k → get_or u t 0 ≡ get_or v t 0
 
+pub alike_none : (u v : List ℕ) → AlikeBelow u v 0
+alike_none u v = record { in_left = omega arith; in_right = omega arith; alike = λ t h. absurd (omega arith) }
+
+pub alike_more : (u v : List ℕ) (k : ℕ) → AlikeBelow u v k → k < length u → k < length v → get_or u k 0 ≡ get_or v k 0 → AlikeBelow u v (k + 1)
+alike_more u v k w p q e = record { in_left = omega arith; in_right = omega arith; alike = λ t h. at t h (dec_lt t k) }
+  where
+    at : (t : ℕ) → t < k + 1 → Dec (t < k) → get_or u t 0 ≡ get_or v t 0
+    at t h (yes l) = w.alike t l
+    at t h (no l) = let z : k ≡ t = omega (arith, l) in subst (λ (m : ℕ). get_or u m 0 ≡ get_or v m 0) z e
+
 -- The number is reached where a letter differs or a word ends.
 alike_is : (u v : List ℕ) (k : ℕ) → AlikeBelow u v k → (k < length u → k < length v → ¬ (get_or u k 0 ≡ get_or v k 0)) → k ≡ common_prefix u v
 alike_is u v k w d = agreement_is u v k (record { in_left = w.in_left; in_right = w.in_right; alike = w.alike; differ = d })
 
 pub alike_differs : (u v : List ℕ) (k : ℕ) → AlikeBelow u v k → ¬ (get_or u k 0 ≡ get_or v k 0) → k ≡ common_prefix u v
 alike_differs u v k w d = alike_is u v k w (λ p q. d)
+
+pub alike_left_ends : (u v : List ℕ) (k : ℕ) → AlikeBelow u v k → length u ≤ k → k ≡ common_prefix u v
+alike_left_ends u v k w h = alike_is u v k w (λ p q. absurd (omega arith))
+
+pub alike_right_ends : (u v : List ℕ) (k : ℕ) → AlikeBelow u v k → length v ≤ k → k ≡ common_prefix u v
+alike_right_ends u v k w h = alike_is u v k w (λ p q. absurd (omega arith))
 
 -- Behind letters that agree, the rests agree on as many letters as are left.
 pub common_rest : (u v : List ℕ) (k : ℕ) → AlikeBelow u v k → k + common_prefix (drop k u) (drop k v) ≡ common_prefix u v

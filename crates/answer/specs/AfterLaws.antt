@@ -1,6 +1,6 @@
 -- What a buffer holds after a call that refuses, and after one that accepts.
 -- Assumes nothing.
-use Rattle.std.specs.Prelude.{◌≡◌, List, ℕ, length, take, drop, Result, Ok}
+use Rattle.std.specs.Prelude.{◌≡◌, List, ℕ, length, take, drop, Result, Ok, Err}
 use Rattle.std.proofs.Common.{sym, ap, ◌∙◌, take_at, drop_at}
 use Rattle.answer.specs.declared.Reason.{Reason}
 use Rattle.answer.specs.declared.Accepted.{Accepted}
@@ -9,10 +9,19 @@ use Rattle.answer.specs.declared.Refused.{Refused}
 use Rattle.answer.specs.Answers.{accepted_after, refused_for}
 use Rattle.answer.specs.AfterCall.{written, content_in, content_after}
 
+-- An outcome that refuses leaves a buffer as it was.
+pub outcome_refused : (o : Result Accepted Refused) {refusal : Refused} → o ≡ Err refusal → (l before : List ℕ) → before ≡ content_in o l before
+outcome_refused o e l before = sym (ap (λ (q : Result Accepted Refused). content_in q l before) e)
+
+-- An outcome that accepts leaves what was written.
+pub outcome_accepted : (o : Result Accepted Refused) {accepted : Accepted} → o ≡ Ok accepted → (l before after : List ℕ) → after ≡ written l before →
+    after ≡ content_in o l before
+outcome_accepted o e l before after h = h ∙ sym (ap (λ (q : Result Accepted Refused). content_in q l before) e)
+
 -- A call whose outcome accepts leaves what it has written.
 pub content_ok : (a : Answer) {accepted : Accepted} → a.outcome ≡ Ok accepted → (l before : List ℕ) {after : List ℕ} → after ≡ written l before →
     after ≡ content_after a l before
-content_ok a e l before h = h ∙ sym (ap (λ (o : Result Accepted Refused). content_in o l before) e)
+content_ok a e l before {after} h = outcome_accepted a.outcome e l before after h
 
 -- A refused call leaves a buffer as it was.
 pub content_refused : (a : Answer) (reason : Reason) (position : ℕ) → a ≡ refused_for reason position → (l before : List ℕ) →

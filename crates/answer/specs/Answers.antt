@@ -19,6 +19,10 @@ accepted_after count comparisons = record { outcome = Ok (record { count = count
 abbrev pub accepted_with : ℕ → Answer
 accepted_with count = accepted_after count 0
 
+-- What a call that counts no comparisons tells of an accepted input, with its count (document 02, E7).
+abbrev pub uncompared : ℕ → Accepted
+uncompared count = record { count = count; comparisons = 0 }
+
 -- Refused.
 abbrev pub refused_by : Refused → Answer
 refused_by refusal = record { outcome = Err refusal }

@@ -6,7 +6,7 @@
 
 ghost use Rattle.std.specs.Prelude.{◌≡◌};
 ghost use Rattle.answer.specs.Reasons.{number_of};
-ghost use Rattle.answer.specs.Answers.{accepted_with, refused_by, number, value, comparisons};
+ghost use Rattle.answer.specs.Answers.{uncompared, accepted_with, refused_by, number, value, comparisons};
 
 // Why a call refuses its input, with the reason's number: a case for each row of document 01, "Where each check stands", and those that
 // document 02 adds.
@@ -68,6 +68,16 @@ pub struct Accepted {
     pub comparisons: u32,
 }
 
+impl Accepted {
+    // What a call that counts no comparisons tells of an accepted input. Each such call has it from here.
+    pub fn uncompared(count: u32) -> Accepted
+        ensures accepted { result ≡ uncompared count }
+    {
+        let comparisons = 0;
+        Accepted { count, comparisons }
+    }
+}
+
 // What is told of a refused input. The position is 0 where the tables of the documents name none.
 #[derive(Clone, Copy, Debug, PartialEq, Eq)]
 pub struct Refused {
@@ -95,9 +105,8 @@ impl From<Refused> for Answer {
 pub fn accept(count: u32) -> Answer
     ensures answer { result ≡ accepted_with count }
 {
-    let comparisons = 0;
     Answer {
-        outcome: Ok(Accepted { count, comparisons }),
+        outcome: Ok(Accepted::uncompared(count)),
     }
 }
 

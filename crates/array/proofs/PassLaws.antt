@@ -130,21 +130,23 @@ pub falling_lists : (x y : List ℕ) (i : ℕ) (rs : List Entry) → OrderedAlik
 falling_lists x y i rs alike lists =
     subst (λ (n : ℕ). ListsDown falling (letters 0 x) n (end_bound 1 n) i rs) (sym alike.size) (lists_alike alike.there alike.back lists)
 
--- What the second pass asks for, of such letters, behind the first array.
-pub second_ready : (x y part work list list₁ : List ℕ) (first n : ℕ) → FindReady x work list → n ≡ length x → OrderedAlike rising falling 0 0 y x →
-    OrderDone decided_rising 0 x part list list₁ 0 first → PassReady 1 y (take (2 * n - n) (drop n (part ++ drop n work))) list₁ first
-second_ready x y part work list list₁ first n ready e alike done =
+-- What the second pass asks for, of such letters, behind the first array: the places from n to m, which are as many again.
+pub second_ready : (x y part work list list₁ : List ℕ) (first n m : ℕ) → FindReady x work list → n ≡ length x → m ≡ 2 * n →
+    OrderedAlike rising falling 0 0 y x → OrderDone decided_rising 0 x part list list₁ 0 first →
+    PassReady 1 y (take (m - n) (drop n (part ++ drop n work))) list₁ first
+second_ready x y part work list list₁ first n m ready e twice alike done =
     record {
       size =
           omega (
             arith,
-            length-take (2 * n - n) (drop n (part ++ drop n work)),
+            length-take (m - n) (drop n (part ++ drop n work)),
             length-drop n (part ++ drop n work),
             length-append part (drop n work),
             length-drop n work,
             ap length done.array,
             (array_of_holds decided_rising x).size,
             e,
+            twice,
             ready.work_room,
             alike.size,
           );

@@ -51,11 +51,11 @@ module _ (x work part₁ part₂ list list₁ list₂ : List ℕ) (first count :
   size order = (array_of_holds (decided_order order) x).size
 
   -- The work buffer, each part written behind the one before it.
-  both_written : (n : ℕ) → n ≡ length x →
-      take n (part₁ ++ drop n work) ++ (part₂ ++ drop (2 * n - n) (drop n (part₁ ++ drop n work))) ≡ written (both_arrays x) work
-  both_written n e =
+  both_written : (n m : ℕ) → n ≡ length x → m ≡ 2 * n →
+      take n (part₁ ++ drop n work) ++ (part₂ ++ drop (m - n) (drop n (part₁ ++ drop n work))) ≡ written (both_arrays x) work
+  both_written n m e twice =
       let s : length part₁ ≡ n = ap length a.array ∙ size 0 ∙ sym e in
-      let z : 2 * n - n ≡ n = omega arith in
+      let z : m - n ≡ n = omega arith in
       let w : n + n ≡ length (part₁ ++ part₂) = omega (arith, e, length-append part₁ part₂, s, ap length b.array, size 1) in
       rw (take_at part₁ (drop n work) n s, drop_at part₁ (drop n work) n s, z, drop-drop n n work, w, ← append_assoc part₁ part₂ _)
       (ap (λ (l : List ℕ). written l work) (ap₂ (λ (l m : List ℕ). l ++ m) a.array b.array))
@@ -73,9 +73,9 @@ module _ (x work part₁ part₂ list list₁ list₂ : List ℕ) (first count :
         (sorted_length sorted) sorted.ordered)
         (runs_of_holds decided_number_equality x)
 
-    pub both_found : (n : ℕ) → n ≡ length x → (answer : Answer) → answer ≡ accepted_with count →
-        RunsFound x work (take n (part₁ ++ drop n work) ++ (part₂ ++ drop (2 * n - n) (drop n (part₁ ++ drop n work)))) list list₃ answer
-    both_found n e answer told =
+    pub both_found : (n m : ℕ) → n ≡ length x → m ≡ 2 * n → (answer : Answer) → answer ≡ accepted_with count →
+        RunsFound x work (take n (part₁ ++ drop n work) ++ (part₂ ++ drop (m - n) (drop n (part₁ ++ drop n work)))) list list₃ answer
+    both_found n m e twice answer told =
         record {
           counted = told ∙ ap accepted_with (number ∙ sym (sorted_length sorted) ∙ ap length is_list);
           entries =
@@ -83,7 +83,7 @@ module _ (x work part₁ part₂ list list₁ list₂ : List ℕ) (first count :
               ap (λ (m : ℕ). numbers sorted.entries ++ drop m list)
               (numbers_length (a.entries ++ b.entries) ∙ ap (λ (k : ℕ). 3 * k) (sym (sorted_length sorted)) ∙ sym (numbers_length sorted.entries)) ∙
               ap (λ (rs : List Entry). written (numbers rs) list) is_list;
-          arrays = both_written n e;
+          arrays = both_written n m e twice;
         }
 
 -- The second pass goes by the letters y, which compare as those of x do in falling order: it is the falling pass of x.

@@ -8,6 +8,7 @@ ghost use Rattle.words.specs.Compute.LyndonArray.{array_of};
 use crate::joined;
 use crate::text::Numbers;
 use answer::Answer;
+use letters::Order;
 
 // The Lyndon array of a text of 32-bit letters, in order 0 (rising) or 1 (falling): for every position the length of the longest Lyndon word
 // that starts there. Refused by document 01's checks 1, 2, 3 and 4.
@@ -20,6 +21,6 @@ pub fn lyndon_array(text: &[u32], order: u32, out: &mut [u32]) -> Answer
     if let Err(refusal) = checks::ordered_text(text.len(), order, out.len()) {
         return Answer::from(refusal);
     }
-    let order = letters::direction(order);
+    let order = Order::numbered(letters::direction(order));
     joined::compute(Numbers { text, order }, &mut out[..text.len()])
 }

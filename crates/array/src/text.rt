@@ -50,7 +50,7 @@ impl Text for Keyed<'_> {
     }
 
     fn compare(self, i: usize, j: usize) -> Ordering {
-        letters::compare_ranks(self.keys, self.text[i], self.text[j], Order::Rising)
+        Order::Rising.compare_ranks(self.keys, self.text[i], self.text[j])
     }
 }
 
@@ -75,6 +75,6 @@ impl Text for Numbers<'_> {
     }
 
     fn compare(self, i: usize, j: usize) -> Ordering {
-        letters::compare(self.text[i], self.text[j], self.order)
+        self.order.compare(self.text[i], self.text[j])
     }
 }

@@ -1,14 +1,16 @@
 -- Checks one after the other, what they make of the answer, and what is known where they pass.
 -- Assumes nothing.
-use Rattle.std.specs.Prelude.{◌≡◌, refl, Bool, true, false, ℕ, zero, suc, ◌<◌, ◌≤◌, ⊤, Result, Ok, Err}
-use Rattle.std.proofs.Common.{sym, ap, ◌∙◌, arith, lt-ltb, le-ltb, eq-eqb, ne_eqb}
+use Rattle.std.specs.Prelude.{◌≡◌, refl, Bool, true, false, not, ◌&&◌, ℕ, zero, suc, ◌<◌, ◌≤◌, ltb, eqb, ⊤, Result, Ok, Err}
+use Rattle.std.proofs.Common.{sym, ap, ◌∙◌, arith, lt-ltb, le-ltb, eq-eqb, ne_eqb, ltb-false, eqb-true}
+use Rattle.std.proofs.lemmas.Bool.{eqb-false, not-false}
 use Rattle.answer.specs.declared.Accepted.{Accepted}
 use Rattle.answer.specs.declared.Refused.{Refused}
+use Rattle.answer.specs.declared.Reason.{Reason}
 use Rattle.answer.specs.declared.Reason.TheVariants.{EmptyText, TextTooLong, UnknownOrder, ShortOutput, ShortWork, WrongTable, NotLyndon}
 use Rattle.answer.specs.declared.Answer.{Answer}
-use Rattle.answer.specs.Answers.{accepted_with, refused_by, refused_for, accepted_apart}
+use Rattle.answer.specs.Answers.{accepted_with, refused_by, refused_for, refused_if, accepted_apart}
 use Rattle.answer.specs.Limits.{Sized, max_length, run_list_length, prefix_count, work_length, ranked_order, table_length}
-use Rattle.checks.specs.Checks.{length_checked, order_checked, output_checked, work_checked, text_checked}
+use Rattle.checks.specs.Checks.{limit_checked, length_checked, order_checked, output_checked, work_checked, text_checked}
 use Rattle.checks.specs.Checks.{ordered_text_checked, forest_checked, runs_checked, Check, answer_to, Refuses}
 use Rattle.checks.specs.Checks.{table_checked, ranked_checked, ranked_text_checked, ranked_forest_checked, ranked_runs_checked, uses_table}
 use Rattle.checks.specs.Checks.{lyndon_checked, two_texts_checked, prefixes_checked}
@@ -21,6 +23,43 @@ module _ {now : Check} {check : Answer → Answer} (all : Refuses now check) (re
   -- Checks of which one fails refuse.
   pub failing : {refusal : Refused} → now ≡ Err refusal → check rest ≡ refused_by refusal
   failing e = sym (all.answer rest) ∙ ap (λ (c : Check). answer_to c rest) e
+
+-- What is known where a check and what follows it accept: its condition, and that what follows does.
+module _ (rest : Answer) where
+  pub if_cleared : (fails : Bool) (reason : Reason) (position : ℕ) → refused_if fails reason position rest ≡ accepted_with 0 →
+      (fails ≡ false) × (rest ≡ accepted_with 0)
+  if_cleared true reason position e = absurd (accepted_apart (sym e))
+  if_cleared false reason position e = (refl, e)
+
+  pub order_cleared : (last order : ℕ) → order_checked last order rest ≡ accepted_with 0 → (order ≤ last) × (rest ≡ accepted_with 0)
+  order_cleared last order e = let p = if_cleared (ltb last order) UnknownOrder 0 e in (ltb-false last order p.0, p.1)
+
+  pub output_cleared : (needed given : ℕ) → output_checked needed given rest ≡ accepted_with 0 → (needed ≤ given) × (rest ≡ accepted_with 0)
+  output_cleared needed given e = let p = if_cleared (ltb given needed) ShortOutput 0 e in (ltb-false given needed p.0, p.1)
+
+  pub work_cleared : (needed given : ℕ) → work_checked needed given rest ≡ accepted_with 0 → (needed ≤ given) × (rest ≡ accepted_with 0)
+  work_cleared needed given e = let p = if_cleared (ltb given needed) ShortWork 0 e in (ltb-false given needed p.0, p.1)
+
+  pub lyndon_cleared : (holds : Bool) → lyndon_checked holds rest ≡ accepted_with 0 → (holds ≡ true) × (rest ≡ accepted_with 0)
+  lyndon_cleared holds e = let p = if_cleared (not holds) NotLyndon 0 e in (not-false holds p.0, p.1)
+
+  -- A table that is used has its length.
+  pub table_cleared : (used : Bool) (entries : ℕ) → table_checked used entries rest ≡ accepted_with 0 →
+      (used ≡ true → entries ≡ table_length) × (rest ≡ accepted_with 0)
+  table_cleared used entries e =
+      let p = if_cleared (used && not (eqb entries table_length)) WrongTable 0 e in
+      (fits used p.0, p.1)
+    where
+      fits : (u : Bool) → u && not (eqb entries table_length) ≡ false → u ≡ true → entries ≡ table_length
+      fits true q t = eqb-true entries table_length (not-false (eqb entries table_length) q)
+      fits false q t = let z : ◌≡◌ {A = ℕ} 0 1 = cc in absurd (omega arith)
+
+pub length_cleared : (rest : Answer) (limit n : ℕ) → length_checked limit n rest ≡ accepted_with 0 →
+    (0 < n) × (n ≤ limit) × (rest ≡ accepted_with 0)
+length_cleared rest limit n e =
+    let some = if_cleared (limit_checked limit n rest) (eqb n 0) EmptyText 0 e in
+    let short = if_cleared rest (ltb limit n) TextTooLong 0 some.1 in
+    (omega (arith, eqb-false n 0 some.0), ltb-false limit n short.0, short.1)
 
 -- The checks, where their conditions hold.
 module _ (rest : Answer) where

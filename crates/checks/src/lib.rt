@@ -62,11 +62,11 @@ pub fn two_texts(first: usize, second: usize) -> Result<(), Refused>
 
 // 1, 2, 3 and 16: a call on letters in order 0, 1 or 2, with the length of its rank table.
 // The order is a number, as C gives it.
-fn ranked(size: usize, number: u32, entries: usize) -> Result<(), Refused>
-    ensures check { Refuses result (ranked_checked size number entries) }
-    ensures passed { OnOk result (Sized size × (number ≤ ranked_order) × (uses_table number ≡ true → entries ≡ table_length)) }
+fn ranked(letter_count: usize, number: u32, entries: usize) -> Result<(), Refused>
+    ensures check { Refuses result (ranked_checked letter_count number entries) }
+    ensures passed { OnOk result (Sized letter_count × (number ≤ ranked_order) × (uses_table number ≡ true → entries ≡ table_length)) }
 {
-    length(size)?;
+    length(letter_count)?;
     order(limits::RANKED, number)?;
     if number == limits::RANKED {
         return table(entries);
@@ -120,14 +120,19 @@ pub fn runs(size: usize, list: usize, buffer: usize) -> Result<(), Refused>
 }
 
 // 1, 2, 16, 4 and 5: the same by a rank table, with its length.
-pub fn ranked_runs(size: usize, entries: usize, places: usize, work: usize) -> Result<(), Refused>
-    ensures check { Refuses result (ranked_runs_checked size entries places work) }
-    ensures passed { OnOk result (Sized size × (entries ≡ table_length) × (run_list_length size ≤ places) × (work_length size ≤ work)) }
+pub fn ranked_runs(
+    text_length: usize,
+    entries: usize,
+    places: usize,
+    work: usize,
+) -> Result<(), Refused>
+    ensures check { Refuses result (ranked_runs_checked text_length entries places work) }
+    ensures passed { OnOk result (Sized text_length × (entries ≡ table_length) × (run_list_length text_length ≤ places) × (work_length text_length ≤ work)) }
 {
-    length(size)?;
+    length(text_length)?;
     table(entries)?;
-    run_list(size, places)?;
-    run_work(size, work)
+    run_list(text_length, places)?;
+    run_work(text_length, work)
 }
 
 // 21 and 22: a call that uses or reads a table of a store, which is usable if it is a built-in one or was written.

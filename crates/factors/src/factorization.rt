@@ -67,7 +67,7 @@ pub fn factorization_ranked(text: &[u8], order: u32, table: &[u8], out: &mut [u3
     let keys = letters::rank_table(order, table);
     let text = Ordered {
         letters: Keyed { text, keys: &keys },
-        order: letters::direction(order),
+        order: Order::numbered(letters::direction(order)),
     };
     Answer {
         outcome: Ok(list_in(text, out)),

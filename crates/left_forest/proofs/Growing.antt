@@ -4,9 +4,9 @@ use mathlib.Core.Path.{◌≡◌, sym, subst, ◌∙◌}
 use mathlib.Core.List.{List, ◌++◌}
 use Prim.Native.Nat.{ℕ, suc, ◌-◌, ◌<◌, ◌≤◌}
 use native.Mathlib.Omega.{arith}
-use Rattle.std.proofs.Common.{ap₂}
+use Rattle.std.proofs.Common.{ap, ap₂, length-take-le}
 use lib.ListN.{length, get_or, take, drop, length-take}
-use Rattle.std.specs.Prelude.{Ok}
+use Rattle.std.specs.Prelude.{true, Ok}
 use Rattle.words.specs.Letters.{Letters, order_of}
 use Rattle.words.specs.Decided.{Decided, decided_order}
 use Rattle.words.specs.LeftForest.{IsLeftForest}
@@ -22,11 +22,13 @@ use Rattle.answer.specs.declared.Answer.{Answer}
 use Rattle.answer.specs.Answers.{accepted_with}
 use Rattle.answer.specs.AfterCall.{content_after}
 use Rattle.answer.specs.AfterLaws.{content_accepted}
-use Rattle.answer.specs.Limits.{Sized}
+use Rattle.answer.specs.Limits.{Sized, ranked_order, table_length}
+use Rattle.checks.specs.Checks.{uses_table}
 use Rattle.letters.specs.Ranks.{direction_of, row_in}
 use Rattle.letters.specs.RankLaws.{row_in_length}
-use Rattle.factors.specs.Answers.{suffix_table_in}
+use Rattle.factors.specs.Answers.{suffix_table_in, suffix_table_ranked_answer}
 use Rattle.factors.specs.Results.{AllTabled}
+use Rattle.factors.specs.Theorems.{suffix_table_ranked_accepts}
 use Rattle.left_forest.specs.Answers.{left_first_in, left_past_in}
 use Rattle.left_forest.specs.Links.{start_in, Descends, Linked, Linkable, Crossed, OwnRoots}
 use Rattle.left_forest.proofs.SuffixTable.{suffix_table_tabled}
@@ -124,6 +126,14 @@ module _ {O : Letters {0, 0} ℕ} (D : Decided O) (x first past table : List ℕ
           (records_left_forest D 0 x (start_in table) table_longest first₂ past₂ records
           (own_first.others.size ∙ c.in_first.size ∙ in_first) (own_past.others.size ∙ c.in_past.size ∙ whole))
           (left_forest_of_holds D x (factorization_of_holds D x))
+
+-- Where order and table were checked, `suffix_table_ranked` accepts the text, in the first n places of a buffer.
+pub ranked_accepts : (order : ℕ) (ranks x past : List ℕ) → Sized (length x) → order ≤ ranked_order →
+    (uses_table order ≡ true → length ranks ≡ table_length) → length x ≤ length past → {r : Answer} →
+    r ≡ suffix_table_ranked_answer order ranks x (length (take (length x) past)) → r.outcome ≡ Ok (record { count = length x; comparisons = 0 })
+ranked_accepts order ranks x past sized named fits in_past answer =
+    ap (λ (a : Answer). a.outcome)
+    (answer ∙ suffix_table_ranked_accepts x sized (take (length x) past) (omega (arith, length-take-le (length x) past in_past)) order ranks named fits)
 
 -- The same where `suffix_table_ranked` accepts in an order with a rank table, in the first n places of the two buffers: it is the row of the order
 -- that has a table and a forest, and the text has its length.

@@ -40,25 +40,60 @@ impl Keyed<'_> {
     }
 }
 
-// The order of a number: ranks, order 2, are compared as in order 0.
-// The order is a number, as C gives it; no `From`, since not every number is an order.
-pub fn direction(order: u32) -> Order
-    ensures direction { result ≡ numbered_order (direction_of order) }
-{
-    match order {
-        0 | limits::RANKED => Order::Rising,
-        _ => Order::Falling,
+impl Order {
+    // The order of a number: 0 is rising, every other falling. No `From`: which order a number is depends on what is compared, 2 is that of ranks.
+    pub fn numbered(order: u32) -> Order
+        ensures order { result ≡ numbered_order order }
+    {
+        match order {
+            0 => Order::Rising,
+            _ => Order::Falling,
+        }
+    }
+
+    // How two letters compare in it.
+    pub fn compare(self, a: u32, b: u32) -> Ordering
+        ensures answer { result ≡ comparison_of ((decided_order (order_number self)).compare a b) }
+    {
+        match self {
+            Order::Rising => a.cmp(&b),
+            Order::Falling => a.cmp(&b).reverse(),
+        }
+    }
+
+    // How the ranks of two bytes compare in it.
+    pub fn compare_ranks(self, table: &[u8; 256], a: u8, b: u8) -> Ordering
+        ensures answer { result ≡ comparison_of ((decided_order (order_number self)).compare (rank_by table.now a) (rank_by table.now b)) }
+    {
+        if differ(table, a, b) {
+            let (a, b) = (table[a as usize], table[b as usize]);
+            self.compare(u32::from(a), u32::from(b))
+        } else {
+            Ordering::Equal
+        }
     }
 }
 
-// How two letters compare in an order.
-pub fn compare(a: u32, b: u32, order: Order) -> Ordering
-    ensures answer { result ≡ comparison_of ((decided_order (order_number order)).compare a b) }
+// The number of the order that ranks or letters are compared in: ranks, order 2, as in order 0. A number, as C gives the order; `Order::numbered` tells
+// what it stands for.
+pub fn direction(order: u32) -> u32
+    ensures direction { result ≡ direction_of order }
 {
-    match order {
-        Order::Rising => a.cmp(&b),
-        Order::Falling => a.cmp(&b).reverse(),
-    }
+    if order == limits::RANKED { 0 } else { order }
+}
+
+// How two letters compare in the order of a number.
+pub fn compare(a: u32, b: u32, order: u32) -> Ordering
+    ensures answer { result ≡ comparison_of ((decided_order order).compare a b) }
+{
+    Order::numbered(order).compare(a, b)
+}
+
+// The same of two bytes.
+pub fn compare_bytes(a: u8, b: u8, order: u32) -> Ordering
+    ensures answer { result ≡ comparison_of ((decided_order order).compare a b) }
+{
+    compare(u32::from(a), u32::from(b), order)
 }
 
 // Two bytes, of one text or of two, differ in rank. Equal bytes have one rank, so that the table is read only where they differ.
@@ -68,16 +103,11 @@ pub fn differ(table: &[u8; 256], a: u8, b: u8) -> bool
     a != b && table[a as usize] != table[b as usize]
 }
 
-// How the ranks of two bytes compare in an order.
-pub fn compare_ranks(table: &[u8; 256], a: u8, b: u8, order: Order) -> Ordering
-    ensures answer { result ≡ comparison_of ((decided_order (order_number order)).compare (rank_by table.now a) (rank_by table.now b)) }
+// How the ranks of two bytes compare in the order of a number.
+pub fn compare_ranks(table: &[u8; 256], a: u8, b: u8, order: u32) -> Ordering
+    ensures answer { result ≡ comparison_of ((decided_order order).compare (rank_by table.now a) (rank_by table.now b)) }
 {
-    if differ(table, a, b) {
-        let (a, b) = (table[a as usize], table[b as usize]);
-        compare(u32::from(a), u32::from(b), order)
-    } else {
-        Ordering::Equal
-    }
+    Order::numbered(order).compare_ranks(table, a, b)
 }
 
 // The ranks of all bytes in an order: those of the table in order 2, if it has 256 entries, else their own numbers.

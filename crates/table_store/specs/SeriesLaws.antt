@@ -1,19 +1,29 @@
--- Laws of series of calls: what a group gets from its calls rests on its own part of the store, no call of another group changes that part, and a
--- table is the one written last.
+-- Laws of series of calls: answer and buffers are a step of one, what a group gets from its calls rests on its own part of the store, no call of
+-- another group changes that part, and a table is the one written last.
 -- Assumes nothing.
 use Rattle.std.specs.Prelude.{◌≡◌, refl, Bool, true, false, cond, ◌&&◌, List, [], ◌∷◌, ℕ, ◌<◌, eqb, length}
 use Rattle.std.proofs.Common.{sym, ap, ap₂, subst, ◌∙◌, eqb-true}
 use Rattle.std.proofs.Math.Decide.{ℕ_discrete}
 use Rattle.std.proofs.lemmas.Bool.{eqb-false}
+use Rattle.answer.specs.declared.Answer.{Answer}
 use Rattle.answer.specs.Limits.{table_length}
 use Rattle.table_store.specs.declared.store.TableStore.{TableStore}
 use Rattle.table_store.specs.declared.store.TableName.{TableName}
 use Rattle.table_store.specs.Store.{own_tables, own_name, group_exists, table_exists, written_flag, own_table, Lookup, found, lookup}
 use Rattle.table_store.specs.Calls.{store_after}
-use Rattle.table_store.specs.Series.{Call, write_table, use_table, group_of, Result, result_by, result_of, store_of, store_at_end}
+use Rattle.table_store.specs.Series.{Call, write_table, use_table, group_of, Result, result_with, result_by, result_of, store_of, store_at_end}
 use Rattle.table_store.specs.Series.{last_written, calls_of, results_of, SamePart}
 use Rattle.table_store.specs.StoreLaws.{Whole, group_table, own_table_lem, no_lookup, found_by, own_lookup, WriteCase, replaced, unchanged, write_case}
 use Rattle.table_store.specs.StoreLaws.{after_whole, after_table, after_others}
+
+-- Answer and buffers of a call, and both as the step of a series.
+pub one_buffer : {a b : Answer} {l m : List ℕ} → a ≡ b → l ≡ m → (a ≡ b) × ((l ≡ m) × (result_with a (l ∷ []) ≡ result_with b (m ∷ [])))
+one_buffer p q = (p, (q, ap₂ (λ (r : Answer) (k : List ℕ). result_with r (k ∷ [])) p q))
+
+pub two_buffers : {a b : Answer} {l m : List ℕ} {u v : List ℕ} → a ≡ b → l ≡ m → u ≡ v →
+    (a ≡ b) × ((l ≡ m) × ((u ≡ v) × (result_with a (l ∷ u ∷ []) ≡ result_with b (m ∷ v ∷ []))))
+two_buffers {b = b} {l} {u = u} p q r =
+    (p, (q, (r, ap (λ (t : Answer). result_with t (l ∷ u ∷ [])) p ∙ ap₂ (λ (k j : List ℕ). result_with b (k ∷ j ∷ [])) q r)))
 
 pub same_all : (group : ℕ) (a : TableStore) → SamePart group a a
 same_all group a = record { tables = λ k l. refl; flags = λ k l. refl }

@@ -1,13 +1,13 @@
 -- Laws of the store: its lengths, and what a write changes and keeps.
 -- Assumes nothing.
-use Rattle.std.specs.Prelude.{◌≡◌, refl, Bool, true, false, not, List, ℕ, ◌+◌, ◌-◌, ◌<◌, ◌≤◌, eqb, length, take, drop}
-use Rattle.std.proofs.Common.{sym, ap, ap₂, subst, ◌∙◌, arith, rules, eqb-true, eq-eqb, length-set, get_or-set_same, get_or-set_other}
+use Rattle.std.specs.Prelude.{◌≡◌, refl, Bool, true, false, not, List, ◌++◌, ℕ, ◌+◌, ◌-◌, ◌<◌, ◌≤◌, eqb, length, take, drop}
+use Rattle.std.proofs.Common.{sym, ap, ap₂, subst, ◌∙◌, arith, eqb-true, eq-eqb, length-set, length-take-le, take_all, get_or-set_same, get_or-set_other}
 use Rattle.std.proofs.Math.Decide.{dec_lt}
 use Rattle.std.proofs.lemmas.List.{length-replicate}
 use Rattle.std.proofs.Math.Seq.{paste}
 use Rattle.std.proofs.lemmas.List.Edits.{length-paste}
 use borrow.Rule.Slice.PartMut.{put_mid}
-use Rattle.std.proofs.lemmas.Slice.{put_mid-paste, between-put_mid, between_is, take-put_mid_below, overwrites}
+use Rattle.std.proofs.lemmas.Slice.{put_mid-paste, between-put_mid, between_is, take-put_mid_below, drop-put_mid}
 use Rattle.answer.specs.declared.Reason.TheVariants.{UnknownTable, WrongTable}
 use Rattle.answer.specs.declared.Answer.{Answer}
 use Rattle.answer.specs.Answers.{accepted_with, refused_if}
@@ -50,25 +50,32 @@ pub own_lookup : (store : TableStore) (group number : ℕ) → table_exists (own
     lookup store (own_name group number) ≡ found_by (written_flag store group number) (own_table store group number)
 own_lookup store group number e = rw e
 
--- A list in which the elements from `at` on are replaced by n others.
-module _ (d : List ℕ) (at : ℕ) (s : List ℕ) (n : ℕ) (inside : at + n ≤ length d) (all : length s ≡ n) where
-  pasted : paste d at s n ≡ put_mid at n d s
-  pasted = sym (put_mid-paste at n d s s n refl refl (sym all))
+-- A list in which the n elements from `at` on are replaced.
+module _ (d : List ℕ) (at : ℕ) (s : List ℕ) (n : ℕ) (inside : at + n ≤ length d) (enough : n ≤ length s) where
+  all : length (take n s) ≡ n
+  all = length-take-le n s enough
+
+  pasted : paste d at s n ≡ put_mid at n d (take n s)
+  pasted =
+      ap (λ (l : List ℕ). (take at d ++ l) ++ drop (at + n) d) (sym (take_all n (take n s) (omega (arith, all)))) ∙
+      sym (put_mid-paste at n d (take n s) (take n s) n refl refl (sym all))
 
   -- Those are the new ones.
-  paste_here : take n (drop at (paste d at s n)) ≡ s
-  paste_here = let size : at + n - at ≡ n = omega arith in rw pasted (rw size at (between-put_mid at n d s (at + n) (omega arith) (omega arith)))
+  paste_here : take n (drop at (paste d at s n)) ≡ take n s
+  paste_here =
+      let size : at + n - at ≡ n = omega arith in
+      rw pasted (rw size at (between-put_mid at n d (take n s) (at + n) (omega arith) (omega (arith, all))))
 
   -- A part before them is as it was.
   paste_before : (m f : ℕ) → f + m ≤ at → take m (drop f (paste d at s n)) ≡ take m (drop f d)
   paste_before m f h =
       let size : f + m - f ≡ m = omega arith in
       let part : (l : List ℕ) → take m (drop f l) ≡ drop f (take (f + m) l) = λ l. rw size at (between_is l f (f + m)) in
-      part (paste d at s n) ∙ ap (drop f) (rw pasted (take-put_mid_below at n d s (f + m) h (omega arith))) ∙ sym (part d)
+      part (paste d at s n) ∙ ap (drop f) (rw pasted (take-put_mid_below at n d (take n s) (f + m) h (omega arith))) ∙ sym (part d)
 
   -- And so is all behind them.
   paste_behind : (f : ℕ) → at + n ≤ f → drop f (paste d at s n) ≡ drop f d
-  paste_behind f h = search (rules, overwrites)
+  paste_behind f h = rw pasted (drop-put_mid at n d (take n s) f h (omega arith) all)
 
 -- Where the bytes of a group's own table start.
 abbrev start_of : ℕ → ℕ → ℕ
@@ -89,7 +96,7 @@ module _ (store : TableStore) (whole : Whole store) (group number : ℕ) (own : 
   -- It is what its place holds, and its flag is 1.
   with_table_lem : own_table (with_table store group number table) group number ≡ table
   with_table_lem =
-      paste_here store.tables (start_of group number) table table_length room fits
+      paste_here store.tables (start_of group number) table table_length room (omega arith) ∙ take_all table_length table (omega arith)
 
   with_flag : written_flag (with_table store group number table) group number ≡ 1
   with_flag = get_or-set_same store.written (table_place group number) 1 0 (omega (arith, whole, own))
@@ -106,10 +113,10 @@ module _ (store : TableStore) (whole : Whole store) (group number : ℕ) (own : 
       where
         bytes : Dec (table_place g k < table_place group number) → own_table (with_table store group number table) g k ≡ own_table store g k
         bytes (yes l) =
-            paste_before store.tables (start_of group number) table table_length room fits table_length (start_of g k) (omega arith)
+            paste_before store.tables (start_of group number) table table_length room (omega arith) table_length (start_of g k) (omega arith)
         bytes (no l) =
             ap (take table_length)
-            (paste_behind store.tables (start_of group number) table table_length room fits (start_of g k) (omega (arith, places_apart)))
+            (paste_behind store.tables (start_of group number) table table_length room (omega arith) (start_of g k) (omega (arith, places_apart)))
 
 -- The answer of a write, by whether there is such a table and whether 256 entries are given.
 abbrev write_in : Bool → Bool → Answer

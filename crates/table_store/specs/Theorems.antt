@@ -5,6 +5,7 @@ use Rattle.std.proofs.Common.{sym, ap, ap₂, ◌∙◌, arith, length-drop, len
 use Rattle.std.proofs.lemmas.List.{get_or-replicate}
 use Rattle.answer.specs.declared.Reason.{Reason}
 use Rattle.answer.specs.declared.Reason.TheVariants.{UnknownTable, UnwrittenTable}
+use Rattle.answer.specs.declared.Refused.{Refused}
 use Rattle.answer.specs.declared.Answer.{Answer}
 use Rattle.answer.specs.Answers.{accepted_with, accepted_after, refused_for}
 use Rattle.answer.specs.AfterCall.{content_after}
@@ -28,8 +29,8 @@ use Rattle.left_forest.specs.Theorems.{left_first_after, left_past_after, left_f
 use Rattle.left_forest.specs.RankTheorems.{left_forest_by_own_rank}
 use Rattle.table_store.specs.declared.store.TableStore.{TableStore}
 use Rattle.table_store.specs.declared.store.TableName.{TableName}
-use Rattle.table_store.specs.Store.{own_name, built_in_name, group_exists, table_exists, table_place, table_start, new_store, written_flag, own_table}
-use Rattle.table_store.specs.Store.{Lookup, missing, found, lookup}
+use Rattle.table_store.specs.Store.{own_name, built_in_name, group_exists, table_exists, table_place, table_start, new_store, written_flag, is_usable, own_table}
+use Rattle.table_store.specs.Store.{table_at, Lookup, missing, found, lookup_in, lookup}
 use Rattle.table_store.specs.Calls.{write_answer, store_after, answer_by, content_by, copy_answer, read_answer, read_after, array_stored_answer, array_stored_after}
 use Rattle.table_store.specs.Calls.{factorization_stored_answer, factors_stored_after, suffix_table_stored_answer, suffix_table_stored_after}
 use Rattle.table_store.specs.Calls.{left_forest_stored_answer, left_first_stored_after, left_past_stored_after, runs_stored_answer, list_stored_after, work_stored_after}
@@ -106,6 +107,24 @@ found_whole store whole name e = sym (ap length_in e) ∙ go name.builtin (table
         written (not (eqb (written_flag store name.group name.number) 0)) (own_table store name.group name.number)
         (own_length store whole name.group name.number (own_table_lem name.group name.number there))
         )
+
+-- The position with which a lookup is refused; 0 where it finds a table.
+abbrev position_in : Lookup → ℕ
+position_in (Ok table) = 0
+position_in (Err refusal) = refusal.position
+
+-- A lookup that is refused is refused for its reason, with position 0.
+pub lookup_refused : (store : TableStore) (name : TableName) {refusal : Refused} → lookup store name ≡ Err refusal →
+    (lookup store name ≡ missing refusal.reason) × (refusal.position ≡ 0)
+lookup_refused store name {refusal} e = (e ∙ ap (λ (p : ℕ). Err (record { reason = refusal.reason; position = p })) position, position)
+  where
+    go : (exists usable : Bool) (table : List ℕ) → position_in (lookup_in exists usable table) ≡ 0
+    go true true table = refl
+    go true false table = refl
+    go false usable table = refl
+
+    position : refusal.position ≡ 0
+    position = sym (ap position_in e) ∙ go (table_exists name) (is_usable store name) (table_at store name)
 
 -- Where no table is found, a call is refused for the reason found, with position 0, and its buffers hold what they held before.
 module _ {looked : Lookup} {reason : Reason} (e : looked ≡ missing reason) where

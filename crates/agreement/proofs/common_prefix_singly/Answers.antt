@@ -1,6 +1,6 @@
 -- `agreement::common_prefix_singly` meets its contract: the pairs of letters with one rank, as far as the shorter word goes.
 -- Assumes nothing.
-use Rattle.std.proofs.Common.{◌≡◌, ◌∙◌, ℕ, List, length, take, rules}
+use Rattle.std.proofs.Common.{◌≡◌, ◌∙◌, ℕ, List, length, take, rules, arith}
 use Rattle.std.specs.List.{prefix_len, zip}
 use Rattle.std.proofs.lemmas.Iterator.{YieldsList-from_slice, YieldsList-from_zip}
 use Rattle.std.proofs.lemmas.Iterator.Consumers.{YieldsList-at, count_from_yields_List}
@@ -23,5 +23,6 @@ returns c =
     c.take_while.ensures.closure c.take_while.ensures.done (λ x b q k. search (rules, tests)))
     in
     record {
-      result = counted ∙ length-prefix_len (alike ranks) (zip first second) ∙ pairs_counted ranks c.args.u.now c.args.v.now c.min-shorter.result c.min-shorter.ensures;
+      result = counted ∙ length-prefix_len (alike ranks) (zip first second) ∙ pairs_counted ranks c.args.u.now c.args.v.now c.min-shorter.result
+          (omega (arith, c.min-shorter.ensures));
     }

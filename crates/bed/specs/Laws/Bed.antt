@@ -1,7 +1,7 @@
 -- How long BED lines are, and when they are written.
 -- Assumes nothing.
-use Rattle.std.specs.Prelude.{◌≡◌, refl, List, [], ◌∷◌, ◌++◌, ℕ, zero, suc, ◌+◌, ◌*◌, ◌/◌, ◌^◌, ◌≤◌, ◌<◌, map, length, take, drop}
-use Rattle.std.proofs.Common.{sym, ap, ap₂, ◌∙◌, arith, lt-ltb, le-ltb, length-append, append_assoc, append-nil, get_or-take}
+use Rattle.std.specs.Prelude.{◌≡◌, refl, List, [], ◌∷◌, ◌++◌, ℕ, zero, suc, ◌+◌, ◌*◌, ◌-◌, ◌/◌, ◌^◌, ◌≤◌, ◌<◌, map, length, get_or, take, drop}
+use Rattle.std.proofs.Common.{sym, ap, ap₂, ◌∙◌, arith, lt-ltb, le-ltb, length-append, append_assoc, append-nil, get_or-take, get_or-drop, drop-drop}
 use Rattle.std.specs.Simd.{first_chunks}
 use Rattle.words.specs.Runs.{Entry}
 use Rattle.words.specs.Laws.Runs.{entry_equal}
@@ -27,6 +27,28 @@ line_length name start last period h s l p =
     let b : length (decimal_of (suc last)) ≤ 10 = decimal_length 9 (suc last) (omega arith) in
     let c : length (decimal_of period) ≤ 10 = decimal_length 9 period (omega arith) in
     omega (arith, line_parts name start last period)
+
+-- The runs of a list from place i on: the one that stands there, and the rest.
+pub entries_next :
+    (k i : ℕ) (l : List ℕ) → 0 < k
+    → entries_of k (drop i l) ≡ entry_with (get_or l i 0) (get_or l (i + 1) 0) (get_or l (i + 2) 0) ∷ entries_of (k - 1) (drop (i + 3) l)
+entries_next zero i l h = absurd (omega arith)
+entries_next (suc k) i l h =
+    let e : suc k - 1 ≡ k = omega arith in
+    let z : i + 0 ≡ i = omega arith in
+    rw (e, get_or-drop i l 0 0, get_or-drop i l 1 0, get_or-drop i l 2 0, z, drop-drop 3 i l)
+
+-- The lines of the runs of a list from place i on.
+pub lines_next :
+    (name : List ℕ) (k i : ℕ) (l : List ℕ) → 0 < k
+    → bed_lines name (entries_of k (drop i l))
+    ≡ bed_line name (entry_with (get_or l i 0) (get_or l (i + 1) 0) (get_or l (i + 2) 0)) ++ bed_lines name (entries_of (k - 1) (drop (i + 3) l))
+lines_next name k i l h = ap (bed_lines name) (entries_next k i l h)
+
+-- No run is left.
+pub lines_none : (name : List ℕ) (k : ℕ) (l : List ℕ) → k ≤ 0 → bed_lines name (entries_of k l) ≡ []
+lines_none name zero l h = refl
+lines_none name (suc k) l h = absurd (omega arith)
 
 -- One line more.
 pub lines_more : (name : List ℕ) (rs : List Entry) (r : Entry) → bed_lines name (rs ++ (r ∷ [])) ≡ bed_lines name rs ++ bed_line name r

@@ -13,7 +13,7 @@ run-requires g c = search first_ready
 pub run-requires-2 : goal.run-requires-2
 run-requires-2 g c =
     let alike = turned_row _ _ _ c.requires.text c.requires.keys c.turned_table-keys.ensures.content in
-    second_ready _ _ _ _ _ _ _ _ c.requires.find_ready c.len-n.ensures alike c.run.ensures.content
+    second_ready _ _ _ _ _ _ _ _ _ c.requires.find_ready c.len-n.ensures (omega arith) alike c.run.ensures.content
 
 pub overflow_cast-count : goal.overflow_cast-count
 overflow_cast-count g c =
@@ -28,5 +28,5 @@ returns g c =
     record {
       content =
           both_found _ _ _ _ _ _ _ _ _ c.run.ensures.content (falling_done _ _ _ _ _ _ _ alike c.run-2.ensures.content) c.requires.find_ready _
-          sorted _ c.len-n.ensures _ c.accept.ensures.answer;
+          sorted _ _ c.len-n.ensures (omega arith) _ c.accept.ensures.answer;
     }
